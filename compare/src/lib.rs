@@ -1,0 +1,42 @@
+//! The proved library beside a second implementation of the same rules, in the same types, so that
+//! a test can put one question to both.
+#![deny(unsafe_code)]
+
+pub mod osi;
+pub mod random;
+#[allow(unsafe_code)] // calls through C
+pub mod unit;
+
+/// The bytes of a symbol.
+pub const SYMBOL_LENGTH: usize = 21;
+
+pub const ACCEPTED: u64 = 0;
+pub const NOT_21_BYTES: u64 = 1;
+pub const SHORT_BUFFER: u64 = 2;
+pub const BAD_SYMBOL: u64 = 4;
+
+/// The parts of a symbol as the C face carries them: `root` is its six bytes as one number, the
+/// first byte highest; `option_type` is the byte `C` or `P`; `strike` is in mills.
+#[derive(Clone, Copy, Debug, Default, PartialEq, Eq)]
+pub struct Parts {
+    pub root: u64,
+    pub year: u64,
+    pub month: u64,
+    pub day: u64,
+    pub option_type: u64,
+    pub strike: u64,
+}
+
+/// A reader's whole answer.
+#[derive(Clone, Copy, Debug, PartialEq, Eq)]
+pub struct Read {
+    pub number: u64,
+    pub parts: Parts,
+}
+
+/// A writer's answer, beside the bytes that it leaves in the buffer.
+#[derive(Clone, Copy, Debug, PartialEq, Eq)]
+pub struct Written {
+    pub number: u64,
+    pub length: u64,
+}

@@ -1,0 +1,48 @@
+// Total choices: with these a rule is one expression, and its proof one equation.
+ghost use mathlib.Core.Path.{_≡_};
+ghost use mathlib.Core.Bool.{cond, not, _&&_, _||_};
+ghost use Prim.Native.Nat.{_<_};
+ghost use Rattle.rules.specs.Limits.{within};
+
+pub fn both(a: bool, b: bool) -> bool
+    ensures { λ r. ⌜ r ≡ a && b ⌝ }
+{
+    if a { b } else { false }
+}
+
+pub fn either(a: bool, b: bool) -> bool
+    ensures { λ r. ⌜ r ≡ a || b ⌝ }
+{
+    if a { true } else { b }
+}
+
+pub fn negated(a: bool) -> bool
+    ensures { λ r. ⌜ r ≡ not a ⌝ }
+{
+    if a { false } else { true }
+}
+
+pub fn choose(c: bool, a: bool, b: bool) -> bool
+    ensures { λ r. ⌜ r ≡ cond c a b ⌝ }
+{
+    if c { a } else { b }
+}
+
+pub fn pick(c: bool, x: u64, y: u64) -> u64
+    ensures { λ r. ⌜ r ≡ cond c x y ⌝ }
+{
+    if c { x } else { y }
+}
+
+pub fn within(least: u64, most: u64, x: u64) -> bool
+    ensures { λ r. ⌜ r ≡ within least most x ⌝ }
+{
+    both(least <= x, x <= most)
+}
+
+// A byte as a number.
+pub fn wide(b: u8) -> u64
+    ensures { λ r. ⌜ (r ≡ b) × (r < 256) ⌝ }
+{
+    b as u64
+}

@@ -1,0 +1,61 @@
+// Decimal digits in a slice.
+use choice::wide;
+ghost use mathlib.Core.Path.{_≡_};
+ghost use mathlib.Core.List.{[], _∷_};
+ghost use Prim.Native.Nat.{_+_, _-_, _≤_, _<_};
+ghost use lib.ListN.{length};
+ghost use lib.Seq.{slice};
+ghost use Rattle.rules.specs.Numerals.{value, areDigits};
+
+// Whether the bytes from `at` up to `to` are digits.
+pub fn are_digits(s: &[u8], at: usize, to: usize) -> bool
+    requires { ⌜ (at ≤ to) × (to ≤ length (now s)) ⌝ }
+    ensures { λ r. ⌜ r ≡ areDigits 10 48 (slice at to (now (s .entry))) ⌝ }
+{
+    let mut i = at;
+    while i < to {
+        let b = s[i];
+        if b < 48 {
+            return false;
+        }
+        if 58 <= b {
+            return false;
+        }
+        i += 1;
+    }
+    true
+}
+
+// A digit's number; of another byte, some number.
+fn digit(b: u8) -> u64
+    ensures { λ r. ⌜ (r ≡ b - 48) × (r < 208) ⌝ }
+{
+    if b < 48 {
+        return 0;
+    }
+    wide(b - 48)
+}
+
+// The number of two digits.
+pub fn two(b0: u8, b1: u8) -> u64
+    ensures { λ r. ⌜ (r ≡ value 10 48 (b0 ∷ b1 ∷ [])) × (r < 2288) ⌝ }
+{
+    digit(b0) * 10 + digit(b1)
+}
+
+// The number of eight digits.
+pub fn eight(b0: u8, b1: u8, b2: u8, b3: u8, b4: u8, b5: u8, b6: u8, b7: u8) -> u64
+    ensures { λ r. ⌜ r ≡ value 10 48 (b0 ∷ b1 ∷ b2 ∷ b3 ∷ b4 ∷ b5 ∷ b6 ∷ b7 ∷ []) ⌝ }
+{
+    let high = two(b0, b1) * 100 + two(b2, b3);
+    let low = two(b4, b5) * 100 + two(b6, b7);
+    high * 10000 + low
+}
+
+// A number below ten as its digit.
+pub fn byte_of(d: u64) -> u8
+    requires { ⌜ d < 10 ⌝ }
+    ensures { λ r. ⌜ r ≡ d + 48 ⌝ }
+{
+    (d + 48) as u8
+}

@@ -1,0 +1,25 @@
+// Arithmetic on quantities.
+use rules::Mills;
+use rules::Ticks;
+ghost use mathlib.Core.Path.{_≡_};
+ghost use Prim.Native.Nat.{_≤_};
+ghost use Rattle.rules.specs.Quantities.{distance};
+ghost use Rattle.rules.specs.Order.{gcd};
+
+// A distance as a price. This is the only place where ticks become mills; the bounds are those of the settings.
+pub fn distance(ticks: Ticks, tick: Mills) -> Mills
+    requires { ⌜ (ticks .0 ≤ 1000) × (tick .0 ≤ 1000) ⌝ }
+    ensures { λ r. ⌜ r ≡ distance ticks tick ⌝ }
+{
+    Mills(ticks.0 * tick.0)
+}
+
+// The greatest common divisor: the second number falls at each call.
+pub fn gcd(a: u64, b: u64) -> u64
+    ensures { λ r. ⌜ r ≡ gcd a b ⌝ }
+{
+    if b == 0 {
+        return a;
+    }
+    gcd(b, a % b)
+}

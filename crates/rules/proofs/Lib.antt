@@ -1,0 +1,8 @@
+-- Laws of the definitions, then the theorems that specs/ states.
+pub mod Tests
+pub mod Numerals
+pub mod Slices
+pub mod Symbols
+pub mod Divisor
+pub mod Demand1
+pub mod Demand2

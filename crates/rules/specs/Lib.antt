@@ -1,0 +1,8 @@
+-- Document 01's rules, a file for each of its sections; then what is promised of them.
+pub mod Limits
+pub mod Numerals
+pub mod Quantities
+pub mod Symbol
+pub mod Order
+pub mod Demand1
+pub mod Demand2

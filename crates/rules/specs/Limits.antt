@@ -1,0 +1,7 @@
+-- Limits, both ends among them.
+use mathlib.Core.Bool.{Bool, _&&_}
+use Prim.Native.Nat.{ℕ}
+use lib.Dec.{leb}
+
+abbrev pub within : ℕ → ℕ → ℕ → Bool
+within least most x = leb least x && leb x most

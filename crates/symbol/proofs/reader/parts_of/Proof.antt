@@ -1,0 +1,49 @@
+use native.Mathlib.Omega.{arith}
+use Rattle.symbol.proofs.Laws.{parts-read}
+use borrow.Author.Needs.{needs}
+use Rattle.symbol.proofs.reader.parts_of.Statement.{statement}
+use Rattle.symbol.proofs.reader.parts_of.Tie as tie
+
+returns : tie.Need-returns
+returns c =
+    let strike = c .eight .ensures in
+    let right = c .before .before .before .before .before .before .before .before .before .wide .ensures .0 in
+    let day = c .before .before .before .before .before .before .before .before .before .before .before .two3 .ensures .0 in
+    let month = c .before .before .before .before .before .before .before .before .before .before .before .before .before .before .two2 .ensures .0 in
+    let year = c .before .before .before .before .before .before .before .before .before .before .before .before .before .before .before .before .before .two .ensures .0 in
+    let root = c .before .before .before .before .before .before .before .before .before .before .before .before .before .before .before .before .before .before .before .before .root-of .ensures in
+    parts-read _ (omega arith) _ _ _ _ _ _ root year month day right strike
+
+pub parts-of-spec : {M : Type 1} → statement M
+parts-of-spec =
+    tie.close
+    (tie.spec
+    (λ c. search needs)
+    (λ c. search needs)
+    (λ c. search needs)
+    (λ c. search needs)
+    (λ c. search needs)
+    (λ c. search needs)
+    (λ c κs. tt)
+    (λ c. search needs)
+    (λ c. search needs)
+    (λ c κs. tt)
+    (λ c. search needs)
+    (λ c. search needs)
+    (λ c. search needs)
+    (λ c κs. tt)
+    (λ c. search needs)
+    (λ c. search needs)
+    (λ c κs. tt)
+    (λ c. search needs)
+    (λ c κs. tt)
+    (λ c. search needs)
+    (λ c. search needs)
+    (λ c. search needs)
+    (λ c. search needs)
+    (λ c. search needs)
+    (λ c. search needs)
+    (λ c. search needs)
+    (λ c. search needs)
+    (λ c κs. tt)
+    returns)
