@@ -4,5 +4,6 @@ pub mod Numerals
 pub mod Slices
 pub mod Symbols
 pub mod Divisor
+pub mod Examples
 pub mod Demand1
 pub mod Demand2

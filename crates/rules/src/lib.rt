@@ -23,3 +23,95 @@ pub struct SymbolRead {
     pub number: u64,
     pub parts: SymbolParts,
 }
+
+// One leg as it arrives: the count's side and size, and 21 symbol bytes, whatever they hold.
+pub struct RawLeg {
+    pub bought: bool,
+    pub size: u64,
+    pub symbol: [u8; 21],
+}
+
+// The price for one unit: paid, or received where it is negative.
+pub struct Price {
+    pub received: bool,
+    pub size: Mills,
+}
+
+// What an order says beside its legs. Kind: 0 is limit, any other value market. Flags: 0 is no, any other value yes.
+pub struct Terms {
+    pub price: Price,
+    pub kind: u64,
+    pub stop: u64,
+    pub manual: u64,
+    pub opening: u64,
+}
+
+// An order record: up to 16 legs. A greater length is an input like any other.
+pub struct Order {
+    pub legs: [RawLeg; 16],
+    pub len: usize,
+    pub terms: Terms,
+}
+
+// An option series of one root: its type, its expiry as one number (year, month, day), and its strike.
+pub struct Series {
+    pub call: bool,
+    pub expiry: u64,
+    pub strike: Mills,
+}
+
+// A leg as read.
+pub struct Leg {
+    pub root: u64,
+    pub series: Series,
+    pub bought: bool,
+    pub size: u64,
+}
+
+// The exchange's settings. Switches and the last two: 0 is no, any other value yes.
+pub struct Settings {
+    pub check20: u64,
+    pub check21: u64,
+    pub check22: u64,
+    pub check23: u64,
+    pub check24: u64,
+    pub check25: u64,
+    pub check26: u64,
+    // The tick where the reference is below 3,000, and from there.
+    pub lowtick: Mills,
+    pub hightick: Mills,
+    pub increment: Mills,
+    // The acceptable tick distances for a reference below 1,000, to 2,999, to 9,999, and from 10,000.
+    pub atd0: Ticks,
+    pub atd1: Ticks,
+    pub atd2: Ticks,
+    pub atd3: Ticks,
+    pub percentage: u64,
+    // The presets.
+    pub least: Mills,
+    pub most: Mills,
+    pub setticks: Ticks,
+    pub adjusted: u64,
+    pub european: u64,
+}
+
+// The market's values; 0 is missing. Phase: 0 pre-opening, 1 open, 2 halt.
+pub struct Market {
+    pub phase: u64,
+    pub elsewhere: u64,
+    pub extended: u64,
+    pub underlying: Mills,
+    pub nbb: Mills,
+    pub nbo: Mills,
+    pub bid: Mills,
+    pub offer: Mills,
+    pub close: Mills,
+}
+
+// What the order check answers. Class: 1 debit, 2 credit, 0 undetermined. Shape: 1 to 4, 0 other.
+pub struct OrderAnswer {
+    pub number: u64,
+    pub class: u64,
+    pub shape: u64,
+    pub pairings: u64,
+}

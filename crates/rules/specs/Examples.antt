@@ -1,0 +1,152 @@
+-- Document 01, Examples: cases T1 to T8, as the host lends them.
+use mathlib.Core.Path.{_≡_}
+use mathlib.Core.List.{List, [], _∷_, _++_, reverse}
+use mathlib.Core.Bool.{Bool, true, false, cond}
+use Prim.Native.Nat.{ℕ, suc, _-_, _*_, _^_}
+use lib.IntN.{ℤ, pos, negsuc, negℤ}
+use Rattle.rules.specs.declared.Mills.{Mills}
+use Rattle.rules.specs.declared.Ticks.{Ticks}
+use Rattle.rules.specs.declared.SymbolParts.{SymbolParts}
+use Rattle.rules.specs.declared.Terms.{Terms}
+use Rattle.rules.specs.declared.Settings.{Settings}
+use Rattle.rules.specs.declared.Market.{Market}
+use Rattle.rules.specs.declared.OrderAnswer.{OrderAnswer}
+use Rattle.rules.specs.Numerals.{numeral}
+use Rattle.rules.specs.Symbol.{symbolOf}
+use Rattle.rules.specs.Order.{priceOf}
+use Rattle.rules.specs.Numbers.{checkSlices}
+
+-- "all checks on; net increment 10, both ticks 10, every ATD 5, set ticks 4, percentage 300 (3 percent), presets 0 and 600; neither adjusted nor European unless said"
+abbrev pub exampleSettings : ℕ → Settings
+exampleSettings european =
+    record {
+      check20 = 1;
+      check21 = 1;
+      check22 = 1;
+      check23 = 1;
+      check24 = 1;
+      check25 = 1;
+      check26 = 1;
+      lowtick = record { 0 = 10 };
+      hightick = record { 0 = 10 };
+      increment = record { 0 = 10 };
+      atd0 = record { 0 = 5 };
+      atd1 = record { 0 = 5 };
+      atd2 = record { 0 = 5 };
+      atd3 = record { 0 = 5 };
+      percentage = 300;
+      least = record { 0 = 0 };
+      most = record { 0 = 600 };
+      setticks = record { 0 = 4 };
+      adjusted = 0;
+      european = european;
+    }
+
+-- "phase open; market values missing unless given"
+abbrev pub exampleMarket : Market
+exampleMarket =
+    record {
+      phase = 1;
+      elsewhere = 0;
+      extended = 0;
+      underlying = record { 0 = 0 };
+      nbb = record { 0 = 0 };
+      nbo = record { 0 = 0 };
+      bid = record { 0 = 0 };
+      offer = record { 0 = 0 };
+      close = record { 0 = 0 };
+    }
+
+-- "Limit orders; no flags"
+abbrev pub exampleTerms : ℤ → Terms
+exampleTerms price = record { price = priceOf price; kind = 0; stop = 0; manual = 0; opening = 0 }
+
+-- one leg: its 21 symbol bytes and its 8 count bytes
+pub record Lent : Type 0 where
+  pub symbol : List ℕ
+  pub count : List ℕ
+
+-- a count's two's complement
+abbrev pub bits : ℤ → ℕ
+bits (pos n) = n
+bits (negsuc n) = 2 ^ 64 - suc n
+
+-- `n` contracts of root XYZ, at a strike in dollars; the day is that of the month's third Friday in 2027
+abbrev pub lent : ℤ → ℕ → ℕ → ℕ → ℕ → Lent
+lent n right month day dollars =
+    record {
+      symbol = symbolOf (record { root = 97140787388448; year = 2027; month = month; day = day; right = right; strike = record { 0 = dollars * 1000 } });
+      count = reverse (numeral 256 0 8 (bits n));
+    }
+
+-- January's calls and puts
+abbrev pub calls : ℤ → ℕ → Lent
+calls n dollars = lent n 67 1 15 dollars
+
+abbrev pub puts : ℤ → ℕ → Lent
+puts n dollars = lent n 80 1 15 dollars
+
+abbrev pub symbolsOf : List Lent → List ℕ
+symbolsOf [] = []
+symbolsOf (l ∷ ls) = l .symbol ++ symbolsOf ls
+
+abbrev pub countsOf : List Lent → List ℕ
+countsOf [] = []
+countsOf (l ∷ ls) = l .count ++ countsOf ls
+
+-- an order and its expected answer
+pub record Case : Type 0 where
+  pub european : ℕ
+  pub price : ℤ
+  pub legs : List Lent
+  pub expected : OrderAnswer
+
+abbrev minus : ℕ → ℤ
+minus n = negℤ (pos n)
+
+abbrev answers : ℕ → ℕ → ℕ → ℕ → OrderAnswer
+answers number class shape pairings = record { number = number; class = class; shape = shape; pairings = pairings }
+
+abbrev case : ℤ → List Lent → OrderAnswer → Case
+case price legs expected = record { european = 0; price = price; legs = legs; expected = expected }
+
+abbrev pub cases : List Case
+cases =
+    -- T1
+    case (pos 15000) (calls (minus 5) 20 ∷ calls (pos 10) 30 ∷ calls (minus 5) 40 ∷ []) (answers 23 2 2 2)
+    -- T2, and "middle 30"
+    ∷ case (minus 20000) (calls (pos 10) 20 ∷ calls (minus 20) 25 ∷ calls (pos 10) 35 ∷ []) (answers 0 0 3 2)
+    ∷ case (minus 20000) (calls (pos 10) 20 ∷ calls (minus 20) 30 ∷ calls (pos 10) 35 ∷ []) (answers 23 1 3 2)
+    -- T3
+    ∷ case (pos 20000) (puts (minus 20) 10 ∷ puts (pos 40) 20 ∷ puts (minus 20) 30 ∷ []) (answers 23 2 2 2)
+    -- T4, and "middle 40"
+    ∷ case (minus 25000) (puts (pos 5) 35 ∷ puts (minus 10) 45 ∷ puts (pos 5) 50 ∷ []) (answers 0 0 3 2)
+    ∷ case (minus 25000) (puts (pos 5) 35 ∷ puts (minus 10) 40 ∷ puts (pos 5) 50 ∷ []) (answers 23 1 3 2)
+    -- T5
+    ∷ case (pos 8000) (calls (pos 1) 10 ∷ calls (minus 2) 20 ∷ puts (pos 1) 15 ∷ []) (answers 0 0 0 1)
+    -- T6, and at -24,000
+    ∷ case (minus 28000) (calls (minus 1) 20 ∷ calls (pos 1) 45 ∷ puts (pos 1) 20 ∷ puts (minus 1) 45 ∷ []) (answers 24 2 4 2)
+    ∷ case (minus 24000) (calls (minus 1) 20 ∷ calls (pos 1) 45 ∷ puts (pos 1) 20 ∷ puts (minus 1) 45 ∷ []) (answers 0 2 4 2)
+    -- T7, and at -19
+    ∷ case (minus 20) (calls (minus 1) 45 ∷ calls (minus 1) 50 ∷ []) (answers 0 2 0 0)
+    ∷ case (minus 19) (calls (minus 1) 45 ∷ calls (minus 1) 50 ∷ []) (answers 22 2 0 0)
+    -- T8, and European index
+    ∷ case (minus 1000) (lent (pos 1) 67 3 19 20 ∷ lent (minus 1) 67 6 18 20 ∷ []) (answers 0 2 0 1)
+    ∷ record { european = 1; price = minus 1000; legs = lent (pos 1) 67 3 19 20 ∷ lent (minus 1) 67 6 18 20 ∷ []; expected = answers 0 0 0 0 }
+    ∷ []
+
+-- the order check's answer to a case
+abbrev pub given : Case → OrderAnswer
+given c = checkSlices (exampleSettings (c .european)) exampleMarket (exampleTerms (c .price)) (symbolsOf (c .legs)) (countsOf (c .legs))
+
+abbrev pub givens : List Case → List OrderAnswer
+givens [] = []
+givens (c ∷ cs) = given c ∷ givens cs
+
+abbrev pub expecteds : List Case → List OrderAnswer
+expecteds [] = []
+expecteds (c ∷ cs) = c .expected ∷ expecteds cs
+
+-- T1 to T8, jointly
+abbrev pub Examples : Type 0
+Examples = givens cases ≡ expecteds cases
