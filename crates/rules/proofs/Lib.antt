@@ -4,6 +4,10 @@ pub mod Numerals
 pub mod Slices
 pub mod Symbols
 pub mod Divisor
+pub mod Sorting
+pub mod Worth
+pub mod Units
+pub mod Signs
 pub mod Examples
 pub mod Demand1
 pub mod Demand2
