@@ -11,13 +11,13 @@ use Rattle.rules.specs.declared.Series.{Series}
 use Rattle.rules.specs.declared.Leg.{Leg}
 use Rattle.rules.specs.declared.Settings.{Settings}
 use Rattle.rules.specs.declared.Market.{Market}
-use Rattle.rules.specs.Lists.{sameBool, all}
+use Rattle.rules.specs.Lists.{All, sameBool, all}
 use Rattle.rules.specs.Order.{isYes}
 use Rattle.rules.specs.Pairing.{Pair, Walked, walk, oneExpiry, oneStrike, byExpiry, pairing, isDebit}
 use Rattle.rules.specs.Class.{allOf}
 use Rattle.rules.specs.Fair.{Has, Fair, OneExpiry, OneStrike}
 use Rattle.rules.proofs.Tests.{and-both}
-use Rattle.rules.proofs.Sorting.{All, all-perm, all-append, perm-sym, sort-is-perm}
+use Rattle.rules.proofs.Sorting.{all-perm, all-append, perm-sym, sort-is-perm}
 use Rattle.rules.proofs.Worth.{worth, pairsWorth, pairing-worth, walk-all}
 use Rattle.rules.proofs.Groups.{one-expiry, one-strike, series-eq}
 

@@ -12,6 +12,12 @@ pub mod Groups
 pub mod ClassWorth
 pub mod Butterfly
 pub mod Shapes
+pub mod Sound
+pub mod Sequence
+pub mod Slicing
+pub mod Numbering
+pub mod FairTables
 pub mod Examples
 pub mod Demand1
 pub mod Demand2
+pub mod Demand3

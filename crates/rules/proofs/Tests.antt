@@ -7,8 +7,7 @@ use Prim.Native.Nat.{ℕ, _≤_}
 use lib.Dec.{leb}
 use borrow.Author.Tests.{leb-true}
 use Rattle.rules.specs.Limits.{within}
-use Rattle.rules.specs.Lists.{sameBool, every}
-use Rattle.rules.proofs.Sorting.{All}
+use Rattle.rules.specs.Lists.{All, sameBool, every}
 
 pub and-both : (a b : Bool) → a && b ≡ true → (a ≡ true) × (b ≡ true)
 and-both true b h = (refl, h)

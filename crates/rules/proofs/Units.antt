@@ -7,10 +7,10 @@ use native.Mathlib.Nat.{dvd-refl, dvd-zero, dvd-trans, dvd-antisymm, div-mul-can
 use native.Mathlib.Omega.{arith}
 use Rattle.rules.specs.declared.Series.{Series}
 use Rattle.rules.specs.declared.Leg.{Leg}
-use Rattle.rules.specs.Lists.{Perm, sameBool}
+use Rattle.rules.specs.Lists.{All, Perm, sameBool}
 use Rattle.rules.specs.Order.{commonDivisor, divided, units}
 use Rattle.rules.proofs.Divisor.{gcd-divides, gcd-greatest}
-use Rattle.rules.proofs.Sorting.{All, all-perm, perm-sym, map-perm}
+use Rattle.rules.proofs.Sorting.{all-perm, perm-sym, map-perm}
 use Rattle.rules.proofs.Worth.{legWorth, worth}
 
 divides-all : (g : ℕ) (ls : List Leg) → g ∣ commonDivisor ls → All (λ l. g ∣ l .size) ls

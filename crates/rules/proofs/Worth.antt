@@ -7,10 +7,10 @@ use native.Mathlib.Nat.{add-mul, add-sub-of-le, sub-zero}
 use native.Mathlib.Omega.{arith}
 use Rattle.rules.specs.declared.Series.{Series}
 use Rattle.rules.specs.declared.Leg.{Leg}
-use Rattle.rules.specs.Lists.{Perm, none, keep, swap, then, sameBool}
+use Rattle.rules.specs.Lists.{All, Perm, none, keep, swap, then, sameBool}
 use Rattle.rules.specs.Pairing.{Pair, Walked, Reached, pairOf, less, matched, reach, walk, oneExpiry, oneStrike, byExpiry, pairing}
 use Rattle.rules.proofs.Tests.{and-both}
-use Rattle.rules.proofs.Sorting.{All, all-append, sort-is-perm}
+use Rattle.rules.proofs.Sorting.{all-append, sort-is-perm}
 
 -- the contracts of one side (true: bought) times their premiums
 module _ (v : Series → ℕ) (side : Bool) where

@@ -52,9 +52,9 @@ unfoldable pub sizes : List Leg → ℕ
 sizes [] = 0
 sizes (l ∷ ls) = l .size + sizes ls
 
--- "22 buy-buy/sell-sell (004): complex limit order, all legs bought (sold), and the amount paid (received) is below the sum of unit count sizes times the net increment." An amount of the other sign is below it.
+-- "22 buy-buy/sell-sell (004): complex limit order, all legs bought (sold), and the amount paid (received) is below the sum of unit count sizes times the net increment." An amount of the other sign is below every sum.
 unfoldable pub isBelow : Bool → Price → ℕ → Bool
-isBelow bought p n = sameBool bought (p .received) || ltb (p .size .0) n
+isBelow bought p n = cond bought (isNegative p) (isPositive p) || ltb (p .size .0) n
 
 unfoldable pub sameSide : Settings → Terms → List Leg → Bool → Bool
 sameSide st t us side = all (λ u. sameBool side (u .bought)) us && isBelow side (t .price) (sizes us * st .increment .0)

@@ -13,7 +13,7 @@ use Rattle.rules.specs.declared.Market.{Market}
 use Rattle.rules.specs.declared.OrderAnswer.{OrderAnswer}
 use Rattle.rules.specs.Numerals.{numeral}
 use Rattle.rules.specs.Symbol.{symbolOf}
-use Rattle.rules.specs.Order.{priceOf}
+use Rattle.rules.specs.Order.{Lent, symbolsOf, countsOf, termsOf}
 use Rattle.rules.specs.Numbers.{checkSlices}
 
 -- "all checks on; net increment 10, both ticks 10, every ATD 5, set ticks 4, percentage 300 (3 percent), presets 0 and 600; neither adjusted nor European unless said"
@@ -59,12 +59,7 @@ exampleMarket =
 
 -- "Limit orders; no flags"
 abbrev pub exampleTerms : ℤ → Terms
-exampleTerms price = record { price = priceOf price; kind = 0; stop = 0; manual = 0; opening = 0 }
-
--- one leg: its 21 symbol bytes and its 8 count bytes
-pub record Lent : Type 0 where
-  pub symbol : List ℕ
-  pub count : List ℕ
+exampleTerms price = termsOf price 0 0 0 0
 
 -- a count's two's complement
 abbrev pub bits : ℤ → ℕ
@@ -85,14 +80,6 @@ calls n dollars = lent n 67 1 15 dollars
 
 abbrev pub puts : ℤ → ℕ → Lent
 puts n dollars = lent n 80 1 15 dollars
-
-abbrev pub symbolsOf : List Lent → List ℕ
-symbolsOf [] = []
-symbolsOf (l ∷ ls) = l .symbol ++ symbolsOf ls
-
-abbrev pub countsOf : List Lent → List ℕ
-countsOf [] = []
-countsOf (l ∷ ls) = l .count ++ countsOf ls
 
 -- an order and its expected answer
 pub record Case : Type 0 where

@@ -7,7 +7,7 @@ use Rattle.rules.specs.declared.Series.{Series}
 use Rattle.rules.specs.declared.Leg.{Leg}
 use Rattle.rules.specs.declared.Settings.{Settings}
 use Rattle.rules.specs.declared.Market.{Market}
-use Rattle.rules.specs.Order.{isYes}
+use Rattle.rules.specs.Order.{isYes, netWorth}
 
 -- "each series among the order's legs, and for no other; every condition here binds those series only"
 abbrev pub Has : List Leg → Series → Type 0
@@ -50,3 +50,22 @@ pub record Fair (st : Settings) (m : Market) (legs : List Leg) (premium : Series
       → c .call ≡ true → p .call ≡ false → OneExpiry c d → OneExpiry p q → c .expiry ≡ p .expiry
       → c .strike .0 ≡ p .strike .0 → d .strike .0 ≡ q .strike .0 → c .strike .0 < d .strike .0
       → premium c + premium q ≤ premium d + premium p + (d .strike .0 - c .strike .0)
+
+-- "It is shown that a fair table exists whenever every put leg's strike and, for an order with calls, the underlying unless missing exceed the net increment."
+abbrev pub FairExists : Type 0
+FairExists =
+    (st : Settings) (m : Market) (legs : List Leg) →
+    ((s : Series) → Has legs s → s .call ≡ false → st .increment .0 < s .strike .0) →
+    ((s : Series) → Has legs s → s .call ≡ true → 0 < m .underlying .0 → st .increment .0 < m .underlying .0) →
+    (premium : Series → ℕ) × Fair st m legs premium
+
+-- "and for no other": tables that agree on the order's series are fair together, and give the same net worth
+pub record SameTable (st : Settings) (m : Market) (legs : List Leg) (v w : Series → ℕ) : Type 0 where
+  pub fair : Fair st m legs v → Fair st m legs w
+  pub worth : netWorth v legs ≡ netWorth w legs
+
+abbrev pub FairAgree : Type 0
+FairAgree =
+    (st : Settings) (m : Market) (legs : List Leg) (v w : Series → ℕ) →
+    ((s : Series) → Has legs s → v s ≡ w s) →
+    SameTable st m legs v w

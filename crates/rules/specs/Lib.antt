@@ -14,3 +14,4 @@ pub mod Numbers
 pub mod Examples
 pub mod Demand1
 pub mod Demand2
+pub mod Demand3

@@ -4,7 +4,6 @@ use mathlib.Core.Bool.{Bool, true, false, cond, not, _&&_, _||_}
 use Prim.Native.Nat.{ℕ}
 use lib.Dec.{ltb}
 
--- 0 is no, any other value yes
 abbrev pub sameBool : Bool → Bool → Bool
 sameBool a b = cond a b (not b)
 
@@ -30,6 +29,12 @@ module _ {A : Type 0} where
     keep : (a : A) {xs ys : List A} → Perm xs ys → Perm (a ∷ xs) (a ∷ ys)
     swap : (a b : A) (xs : List A) → Perm (a ∷ b ∷ xs) (b ∷ a ∷ xs)
     then : {xs ys zs : List A} → Perm xs ys → Perm ys zs → Perm xs zs
+
+-- a statement of every element
+module _ {A : Type 0} (P : A → Type 0) where
+  abbrev pub All : List A → Type 0
+  All [] = Unit {0}
+  All (x ∷ xs) = P x × All xs
 
 -- every test passes
 unfoldable pub every : List Bool → Bool

@@ -1,5 +1,5 @@
 -- Document 01, Order.
-use mathlib.Core.List.{List, [], _∷_, map}
+use mathlib.Core.List.{List, [], _∷_, _++_, map}
 use mathlib.Core.Bool.{Bool, true, false, cond, not, _&&_}
 use Prim.Native.Nat.{ℕ, zero, suc, _+_, _-_, _*_, _/_, _%_, _^_}
 use lib.ListN.{length, take, drop}
@@ -7,6 +7,7 @@ use lib.Dec.{eqb, ltb}
 use lib.IntN.{ℤ, pos, negsuc, negℤ, _+ℤ_, _*ℤ_}
 use Rattle.rules.specs.declared.RawLeg.{RawLeg}
 use Rattle.rules.specs.declared.Price.{Price}
+use Rattle.rules.specs.declared.Terms.{Terms}
 use Rattle.rules.specs.declared.Order.{Order}
 use Rattle.rules.specs.declared.Series.{Series}
 use Rattle.rules.specs.declared.Leg.{Leg}
@@ -28,6 +29,22 @@ rawLeg symbol count =
     let w = word count in
     record { bought = ltb w (2 ^ 63); size = cond (ltb w (2 ^ 63)) w (2 ^ 64 - w); symbol = symbol }
 
+-- one leg as the host lends it; "in another sequence of the legs, whole legs change places"
+pub record Lent : Type 0 where
+  pub symbol : List ℕ
+  pub count : List ℕ
+
+abbrev pub symbolsOf : List Lent → List ℕ
+symbolsOf [] = []
+symbolsOf (l ∷ ls) = l .symbol ++ symbolsOf ls
+
+abbrev pub countsOf : List Lent → List ℕ
+countsOf [] = []
+countsOf (l ∷ ls) = l .count ++ countsOf ls
+
+abbrev pub lentLegs : List Lent → List RawLeg
+lentLegs ls = map (λ l. rawLeg (l .symbol) (l .count)) ls
+
 -- the first `n` legs of "symbols end to end, and one signed count each"
 unfoldable pub rawLegs : ℕ → List ℕ → List ℕ → List RawLeg
 rawLegs zero symbols counts = []
@@ -41,6 +58,10 @@ recordLegs o = take (o .len) (o .legs)
 unfoldable pub priceOf : ℤ → Price
 priceOf (pos n) = record { received = false; size = record { 0 = n } }
 priceOf (negsuc n) = record { received = true; size = record { 0 = suc n } }
+
+-- kind and flags as the host hands them in
+abbrev pub termsOf : ℤ → ℕ → ℕ → ℕ → ℕ → Terms
+termsOf price kind stop manual opening = record { price = priceOf price; kind = kind; stop = stop; manual = manual; opening = opening }
 
 -- a leg as read: the series is the symbol's type, expiry and strike; the expiry's number is in the order of dates
 abbrev pub seriesOf : SymbolParts → Series

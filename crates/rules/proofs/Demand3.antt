@@ -1,0 +1,178 @@
+-- Demand 3, from the parts: the sequence is sorted away, the class bears on the worth, and no check from 20 to 24 fires at it.
+use mathlib.Core.Path.{_≡_, refl, sym, ap, _∙_}
+use mathlib.Core.List.{List, [], _∷_}
+use mathlib.Core.Bool.{Bool, true, false, _&&_, _||_, not, true≢false}
+use Prim.Native.Nat.{ℕ, zero, suc, _+_, _/_, _%_, _*_, _≤_, _<_}
+use native.Mathlib.Omega.{arith}
+use lib.ListN.{length}
+use lib.Dec.{leb, eqb}
+use lib.IntN.{ℤ, pos, _-ℤ_}
+use lib.Signed.{_≤ℤ_}
+use borrow.Author.Tests.{le-leb, leb-true}
+use Rattle.rules.specs.declared.RawLeg.{RawLeg}
+use Rattle.rules.specs.declared.Terms.{Terms}
+use Rattle.rules.specs.declared.Series.{Series}
+use Rattle.rules.specs.declared.Leg.{Leg}
+use Rattle.rules.specs.declared.Settings.{Settings}
+use Rattle.rules.specs.declared.Market.{Market}
+use Rattle.rules.specs.Limits.{within}
+use Rattle.rules.specs.Lists.{All, Perm, any}
+use Rattle.rules.specs.Order.{isYes, Lent, lentLegs, priceOf, termsOf, legOf, legsOf, units, netWorth}
+use Rattle.rules.specs.Pairing.{byStrike, pairing}
+use Rattle.rules.specs.Class.{classOf}
+use Rattle.rules.specs.Fair.{Has, Fair}
+use Rattle.rules.specs.Numbers.{firstOf, isBadCount, refusal, rejection, judged, refused, outcome, checkLegs, areWhole}
+use Rattle.rules.specs.Demand3.{Alike, IsWhole, IsValid, NotRejected, arrival, legs, Arrivals, Demand3}
+use Rattle.rules.proofs.Tests.{and-both, or-neither, within-both}
+use Rattle.rules.proofs.Sorting.{all-perm, perm-sym, map-perm, length-perm}
+use Rattle.rules.proofs.Numbering.{first-of, none-applies}
+use Rattle.rules.proofs.Worth.{worth, worth-perm}
+use Rattle.rules.proofs.Units.{Sized, units-perm}
+use Rattle.rules.proofs.Signs.{worth-is, up-sign, down-sign}
+use Rattle.rules.proofs.ClassWorth.{has-all}
+use Rattle.rules.proofs.Sound.{codeOf, PriceIs, price-is, has-units, class-ls, Priced, sound20, sound21, sound22, sound23, sound24}
+use Rattle.rules.proofs.Sequence.{by-strike-is-perm, check-perm}
+use Rattle.rules.proofs.Slicing.{slices-are, slices-broken}
+
+-- legs whose counts are in their limits have contracts
+counted : (rs : List RawLeg) → any isBadCount rs ≡ false → Sized (legsOf rs)
+unfolding any legsOf legOf
+counted [] h = tt
+counted (r ∷ rs) h =
+    let k = or-neither _ _ h in
+    (within-both 1 10000 (r .size) (good (within 1 10000 (r .size)) (k .0)) .0, counted rs (k .1))
+  where
+    good : (b : Bool) → not b ≡ false → b ≡ true
+    good true e = refl
+    good false e = absurd (true≢false e)
+
+module _ (st : Settings) (m : Market) (t : Terms) (n : ℕ) (rs : List RawLeg) where
+  -- refusals are 3 to 10
+  pub refusal-small : refusal st m t n rs ≤ 10
+  unfolding refusal
+  refusal-small =
+      first-of (λ k. k ≤ 10) _ (omega arith)
+      (λ e. omega arith, (λ e. omega arith, (λ e. omega arith, (λ e. omega arith, (λ e. omega arith, (λ e. omega arith, (λ e. omega arith, (λ e. omega arith, tt))))))))
+
+  -- a valid order is not refused
+  valid-judged : within 1 12 (checkLegs st m t n rs .number) ≡ false → refusal st m t n rs ≡ 0
+  unfolding checkLegs outcome
+  valid-judged h = go (refusal st m t n rs) refl h
+    where
+      go : (k : ℕ) → refusal st m t n rs ≡ k → within 1 12 (outcome k (judged st m t (byStrike (legsOf rs))) .number) ≡ false → k ≡ 0
+      go zero e g = refl
+      go (suc k) e g =
+          let l : suc k ≤ 10 = omega (arith, refusal-small) in
+          absurd (true≢false (sym (rw (le-leb 1 (suc k) (omega arith), le-leb (suc k) 12 (omega arith))) ∙ g))
+
+  sized : refusal st m t n rs ≡ 0 → Sized (legsOf rs)
+  unfolding refusal
+  sized h =
+      let a = none-applies _ 2 _ h in
+      let b = none-applies _ 3 _ (a .1) in
+      let c = none-applies _ 4 _ (b .1) in
+      counted rs (c .0)
+
+-- one valid order, its legs `ls` as read, and a fair table for it
+module _ (st : Settings) (m : Market) (t : Terms) (ls : List Leg) (big : Sized ls) (v : Series → ℕ) (fair : Fair st m ls v) where
+  abbrev perm : Perm (byStrike ls) ls
+  perm = by-strike-is-perm ls
+
+  has : All (λ l. Has ls (l .series)) (byStrike ls)
+  has = all-perm _ (perm-sym perm) (has-all ls)
+
+  full : Sized (byStrike ls)
+  full = all-perm _ (perm-sym perm) big
+
+  abbrev us : List Leg
+  us = units (byStrike ls)
+
+  net-is : netWorth v ls ≡ pos (worth v true us) -ℤ pos (worth v false us)
+  unfolding netWorth
+  net-is = rw (worth-perm v true (units-perm (byStrike ls) ls perm), worth-perm v false (units-perm (byStrike ls) ls perm)) (worth-is v (units ls))
+
+  abbrev class : ℕ
+  class = classOf us (pairing (isYes (st .european)) (byStrike ls))
+
+  debit-order : class ≡ 1 → worth v false us ≤ worth v true us
+  debit-order e = class-ls st m t ls v fair true (byStrike ls) has full e
+
+  credit-order : class ≡ 2 → worth v true us ≤ worth v false us
+  credit-order e = class-ls st m t ls v fair false (byStrike ls) has full e
+
+  pub debit-sign : class ≡ 1 → pos 0 ≤ℤ netWorth v ls
+  debit-sign e = rw net-is (up-sign (worth v true us) (worth v false us) (debit-order e))
+
+  pub credit-sign : class ≡ 2 → netWorth v ls ≤ℤ pos 0
+  credit-sign e = rw net-is (down-sign (worth v true us) (worth v false us) (credit-order e))
+
+  pub not-rejected : (z : ℤ) → t .price ≡ priceOf z → z ≡ netWorth v ls → 20 ≤ rejection st m t us class → rejection st m t us class ≤ 24 → ⊥
+  unfolding rejection
+  not-rejected z p e =
+      first-of (λ k. 20 ≤ k → k ≤ 24 → ⊥) _ (λ a b. omega arith) (
+        (λ f. absurd (sound20 st m t ls v fair (byStrike ls) has full priced (and-both (isYes (st .check20)) _ f .1))),
+        (
+          (λ f. absurd (sound21 st m t ls v fair (byStrike ls) has full priced (and-both (isYes (st .check21)) _ f .1))),
+          (
+            (λ f. absurd (sound22 st m t ls v fair us (has-units st m t ls v fair (byStrike ls) has) priced (and-both (isYes (st .check22)) _ f .1))),
+            (
+              (λ f. absurd (sound23 st m t ls v fair us class priced debit-order credit-order (and-both (isYes (st .check23)) _ f .1))),
+              (
+                (λ f. absurd (sound24 st m t ls v fair us (has-units st m t ls v fair (byStrike ls) has) priced (and-both (isYes (st .check24)) _ f .1))),
+                ((λ f a b. omega arith), tt),
+              ),
+            ),
+          ),
+        ),
+      )
+    where
+      priced : PriceIs (t .price) (worth v true us) (worth v false us)
+      priced = rw (p ∙ ap priceOf (e ∙ net-is)) (price-is (worth v true us) (worth v false us))
+
+module _ (a : Alike) (xs : List Lent) (w : All IsWhole xs) where
+  abbrev t : Terms
+  t = termsOf (a .price) (a .kind) (a .stop) (a .manual) (a .opening)
+
+  is-check : arrival a xs ≡ checkLegs (a .settings) (a .market) t (length xs) (lentLegs xs)
+  is-check = slices-are (a .settings) (a .market) t xs w
+
+  zero-refusal : IsValid (arrival a xs) → refusal (a .settings) (a .market) t (length xs) (lentLegs xs) ≡ 0
+  zero-refusal h = valid-judged (a .settings) (a .market) t (length xs) (lentLegs xs) (rw is-check at h)
+
+  is-judged : IsValid (arrival a xs) → arrival a xs ≡ judged (a .settings) (a .market) t (byStrike (legs xs))
+  unfolding checkLegs outcome
+  is-judged h = is-check ∙ rw (zero-refusal h)
+
+  module _ (h : IsValid (arrival a xs)) (v : Series → ℕ) (fair : Fair (a .settings) (a .market) (legs xs) v) where
+    big : Sized (legs xs)
+    big = sized (a .settings) (a .market) t (length xs) (lentLegs xs) (zero-refusal h)
+
+    debit : arrival a xs .class ≡ 1 → pos 0 ≤ℤ netWorth v (legs xs)
+    unfolding judged
+    debit e = debit-sign (a .settings) (a .market) t (legs xs) big v fair (sym (ap (λ r. r .class) (is-judged h)) ∙ e)
+
+    credit : arrival a xs .class ≡ 2 → netWorth v (legs xs) ≤ℤ pos 0
+    unfolding judged
+    credit e = credit-sign (a .settings) (a .market) t (legs xs) big v fair (sym (ap (λ r. r .class) (is-judged h)) ∙ e)
+
+    sound : a .price ≡ netWorth v (legs xs) → NotRejected (arrival a xs)
+    unfolding judged
+    sound e = rw (is-judged h) (not-rejected (a .settings) (a .market) t (legs xs) big v fair (a .price) refl e)
+
+same-arrival : (a : Alike) (xs ys : List Lent) → All IsWhole xs → Perm xs ys → arrival a xs ≡ arrival a ys
+same-arrival a xs ys w p =
+    is-check a xs w
+    ∙ rw (length-perm p) (check-perm (a .settings) (a .market) (t a xs w) (length ys) (map-perm _ p))
+    ∙ sym (is-check a ys (all-perm _ p w))
+
+pub demand3 : Demand3
+demand3 =
+    record {
+      whole = λ a xs ys w p. record {
+        same = same-arrival a xs ys w p;
+        debit = λ h v f. debit a xs w h v f;
+        credit = λ h v f. credit a xs w h v f;
+        sound = λ h v f e. let n = sound a xs w h v f e in (n, rw (same-arrival a xs ys w p) at n);
+      };
+      broken = λ a s t′ c d e f h. slices-broken (a .settings) (a .market) _ s c h ∙ sym (slices-broken (a .settings) (a .market) _ t′ d (rw (e, f) at h));
+    }

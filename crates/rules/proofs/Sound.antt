@@ -1,0 +1,233 @@
+-- At its net worth under a fair table no order is rejected by checks 20 to 24.
+use mathlib.Core.Path.{_≡_, refl, sym, ap, _∙_, subst}
+use mathlib.Core.List.{List, [], _∷_}
+use mathlib.Core.Bool.{Bool, true, false, cond, _&&_, _||_, not, true≢false}
+use mathlib.Core.Logic.{_⊎_, inl, inr}
+use Prim.Native.Nat.{ℕ, zero, suc, _+_, _-_, _*_, _/_, _≤_, _<_, min, max}
+use native.Mathlib.Nat.{div-self, mul-le-mul-left}
+use native.Mathlib.Omega.{arith}
+use lib.Dec.{ltb, leb, eqb}
+use lib.IntN.{ℤ, pos, negsuc, negℤ, _-ℤ_}
+use borrow.Author.Tests.{ltb-true, ltb-false, leb-true, leb-false, eqb-true, le-ltb, lt-ltb}
+use Rattle.rules.specs.declared.Mills.{Mills}
+use Rattle.rules.specs.declared.Price.{Price}
+use Rattle.rules.specs.declared.Terms.{Terms}
+use Rattle.rules.specs.declared.Series.{Series}
+use Rattle.rules.specs.declared.Leg.{Leg}
+use Rattle.rules.specs.declared.Settings.{Settings}
+use Rattle.rules.specs.declared.Market.{Market}
+use Rattle.rules.specs.Lists.{All, sameBool, all, every}
+use Rattle.rules.specs.Order.{isYes, isSimple, priceOf, gcd, gcdWithin, commonDivisor, units}
+use Rattle.rules.specs.Pairing.{Walked, pairing}
+use Rattle.rules.specs.Class.{isVertical, isButterfly, isTrue, isLeaning, isBox, shapeOf, allOf, pairClass, classOf}
+use Rattle.rules.specs.Checks.{isLimit, isPositive, isNegative, putTest, callTest, simpleBuy, sizes, isBelow, sameSide, buyBuy, debitCredit, maximumOf, allowance, hasMaximum, maximumValue}
+use Rattle.rules.specs.Fair.{Has, Fair}
+use Rattle.rules.proofs.Tests.{and-both, or-either, not-eq, passed}
+use Rattle.rules.proofs.Sorting.{all-map}
+use Rattle.rules.proofs.Worth.{worth}
+use Rattle.rules.proofs.Units.{Sized, units-order}
+use Rattle.rules.proofs.Signs.{minus-up, minus-down}
+use Rattle.rules.proofs.ClassWorth.{class-worth, loners}
+use Rattle.rules.proofs.Shapes.{fly-class, vertical-max, fly-max, box-max}
+
+-- the price that is `B` less `S`
+pub record PriceIs (p : Price) (B S : ℕ) : Type 0 where
+  pub received : p .received ≡ ltb B S
+  pub size : p .size .0 ≡ (B - S) + (S - B)
+
+pub price-is : (B S : ℕ) → PriceIs (priceOf (pos B -ℤ pos S)) B S
+unfolding priceOf
+price-is B S = go (leb S B) refl
+  where
+    down : (n : ℕ) → S - B ≡ suc n → PriceIs (priceOf (negℤ (pos (suc n)))) B S
+    down n e = record { received = sym (lt-ltb B S (omega arith)); size = omega arith }
+
+    go : (b : Bool) → leb S B ≡ b → PriceIs (priceOf (pos B -ℤ pos S)) B S
+    go true e =
+        let h = leb-true S B e in
+        rw (minus-up B S h) (record { received = sym (le-ltb B S h); size = omega arith })
+    go false e =
+        let h = leb-false S B e in
+        let n : S - B ≡ suc (S - B - 1) = omega arith in
+        rw (minus-down B S (omega arith), n) (down (S - B - 1) n)
+
+-- the class's number for a side
+abbrev pub codeOf : Bool → ℕ
+codeOf true = 1
+codeOf false = 2
+
+pair-class : (side : Bool) (w : Walked) → pairClass w ≡ codeOf side → allOf side w ≡ true
+unfolding pairClass
+pair-class side w = go side (allOf true w) refl (allOf false w) refl
+  where
+    go : (s a : Bool) → allOf true w ≡ a → (b : Bool) → allOf false w ≡ b → cond a 1 (cond b 2 0) ≡ codeOf s → allOf s w ≡ true
+    go true true e b f h = e
+    go true false e true f h = absurd (omega arith)
+    go true false e false f h = absurd (omega arith)
+    go false true e b f h = absurd (omega arith)
+    go false false e true f h = f
+    go false false e false f h = absurd (omega arith)
+
+side-of : (b side : Bool) → cond b 2 1 ≡ codeOf side → b ≡ not side
+side-of true true h = absurd (omega arith)
+side-of true false h = refl
+side-of false true h = refl
+side-of false false h = absurd (omega arith)
+
+shaped : (b : Bool) (k : ℕ) → hasMaximum (cond b k 0) ≡ true → (b ≡ true) × (hasMaximum k ≡ true)
+shaped true k h = (refl, h)
+shaped false k h = absurd (true≢false (sym h))
+
+true-shape : (b : Bool) → hasMaximum (cond b 2 3) ≡ true → b ≡ true
+true-shape true h = refl
+true-shape false h = h
+
+-- legs of one side leave nothing of the other
+one-side : (v : Series → ℕ) (side : Bool) (us : List Leg) → all (λ u. sameBool side (u .bought)) us ≡ true → worth v (not side) us ≡ 0
+unfolding all worth
+one-side v side [] h = refl
+one-side v side (u ∷ us) h =
+    let k = and-both (sameBool side (u .bought)) _ h in
+    omega (arith, one-side v side us (k .1), none side (u .bought) (k .0))
+  where
+    none : (s b : Bool) → sameBool s b ≡ true → cond (sameBool (not s) b) (u .size * v (u .series)) 0 ≡ 0
+    none true true e = refl
+    none true false e = cc
+    none false true e = cc
+    none false false e = refl
+
+module _ (st : Settings) (mk : Market) (t : Terms) (legs : List Leg) (v : Series → ℕ) (fair : Fair st mk legs v) where
+  abbrev Hs : List Leg → Type 0
+  Hs = All (λ l. Has legs (l .series))
+
+  -- the class of unit legs, where pairs and loners bear theirs out
+  class-us : (side : Bool) (us : List Leg) (w : Walked) → Hs us → (pairClass w ≡ codeOf side → worth v (not side) us ≤ worth v side us)
+      → classOf us w ≡ codeOf side → worth v (not side) us ≤ worth v side us
+  unfolding classOf
+  class-us side [] w h r e = r e
+  class-us side (a ∷ []) w h r e = r e
+  class-us side (a ∷ b ∷ []) w h r e = r e
+  class-us side (a ∷ m ∷ b ∷ []) w h r e = go (isLeaning a m b) refl e
+    where
+      go : (k : Bool) → isLeaning a m b ≡ k → cond k (cond (m .bought) 2 1) (pairClass w) ≡ codeOf side → worth v (not side) (a ∷ m ∷ b ∷ []) ≤ worth v side (a ∷ m ∷ b ∷ [])
+      go true f g = fly-class st mk legs v fair side a m b (h .0) (h .1 .0) (h .1 .1 .0) f (side-of (m .bought) side g)
+      go false f g = r g
+  class-us side (a ∷ b ∷ c ∷ d ∷ q) w h r e = r e
+
+  pub has-units : (ls : List Leg) → Hs ls → Hs (units ls)
+  unfolding units
+  has-units ls h = all-map (λ l. Has legs (l .series)) _ ls h
+
+  -- the class of an order bears on its worth
+  pub class-ls : (side : Bool) (ls : List Leg) → Hs ls → Sized ls → classOf (units ls) (pairing (isYes (st .european)) ls) ≡ codeOf side → worth v (not side) (units ls) ≤ worth v side (units ls)
+  class-ls side ls h z e =
+      class-us side (units ls) (pairing (isYes (st .european)) ls) (has-units ls h)
+      (λ f. units-order v (not side) side ls z (class-worth st mk legs v fair ls h side (pair-class side (pairing (isYes (st .european)) ls) f)))
+      e
+
+  abbrev B : List Leg → ℕ
+  B us = worth v true us
+
+  abbrev S : List Leg → ℕ
+  S us = worth v false us
+
+  -- the price is the net worth
+  abbrev pub Priced : List Leg → Type 0
+  Priced us = PriceIs (t .price) (B us) (S us)
+
+  -- one leg, bought
+  single : (l : Leg) → 0 < l .size → l .bought ≡ true → Priced (units (l ∷ [])) → t .price .size .0 ≡ v (l .series)
+  unfolding units commonDivisor gcd gcdWithin worth
+  single l z b p =
+      let w : B (units (l ∷ [])) ≡ v (l .series) = rw (b, div-self z) (omega arith) in
+      let n : S (units (l ∷ [])) ≡ 0 = rw b (omega arith) in
+      omega (arith, p .size)
+
+  simple-sound : (test : Series → Mills → Bool) → ((s : Series) (paid : Mills) → Has legs s → paid .0 ≡ v s → test s paid ≡ true → ⊥)
+      → (ls : List Leg) → Hs ls → Sized ls → Priced (units ls) → simpleBuy test t (units ls) ≡ true → ⊥
+  unfolding simpleBuy units
+  simple-sound test never [] h z p e = true≢false (sym e)
+  simple-sound test never (l ∷ []) h z p e =
+      let (e0, (e1, (e2, (e3, e4)))) = passed _ e in
+      never (l .series) (t .price .size) (h .0) (single l (z .0) e1 p) e3
+  simple-sound test never (l ∷ k ∷ r) h z p e = true≢false (sym e)
+
+  pub sound20 : (ls : List Leg) → Hs ls → Sized ls → Priced (units ls) → simpleBuy putTest t (units ls) ≡ true → ⊥
+  unfolding putTest
+  sound20 = simple-sound putTest (λ s paid h e f. let k = and-both (not (s .call)) _ f in omega (arith, leb-true (s .strike .0) (paid .0) (k .1), fair .putBelow s h (not-eq (s .call) (k .0))))
+
+  pub sound21 : (ls : List Leg) → Hs ls → Sized ls → Priced (units ls) → simpleBuy (callTest st mk) t (units ls) ≡ true → ⊥
+  unfolding callTest
+  sound21 =
+      simple-sound (callTest st mk)
+      (λ s paid h e f. let (c, (known, (above, rest))) = passed _ f in omega (arith, leb-true (mk .underlying .0) (paid .0) above, fair .callBelow s h c (ltb-true 0 (mk .underlying .0) known)))
+
+  -- legs of one side are worth at least the net increment for each contract
+  increments : (side : Bool) (us : List Leg) → Hs us → all (λ u. sameBool side (u .bought)) us ≡ true → sizes us * st .increment .0 ≤ worth v side us
+  unfolding all sizes worth
+  increments side [] h e = omega arith
+  increments side (u ∷ us) h e =
+      let k = and-both (sameBool side (u .bought)) _ e in
+      rw (k .0) (omega (arith, increments side us (h .1) (k .1), mul-le-mul-left (u .size) (fair .atLeast (u .series) (h .0))))
+
+  -- an amount paid (received) that is the worth of one side's legs is below no smaller sum
+  not-below : (side : Bool) (us : List Leg) (n : ℕ) → Priced us → worth v (not side) us ≡ 0 → n ≤ worth v side us → isBelow side (t .price) n ≡ true → ⊥
+  unfolding isBelow
+  not-below true us n p z h e = go (or-either _ _ e)
+    where
+      go : (isNegative (t .price) ≡ true) ⊎ (ltb (t .price .size .0) n ≡ true) → ⊥
+      go (inl f) = let k = and-both (t .price .received) _ f in omega (arith, ltb-true (B us) (S us) (sym (p .received) ∙ k .0))
+      go (inr f) = omega (arith, p .size, ltb-true (t .price .size .0) n f)
+  not-below false us n p z h e = go (or-either _ _ e)
+    where
+      go : (isPositive (t .price) ≡ true) ⊎ (ltb (t .price .size .0) n ≡ true) → ⊥
+      go (inl f) =
+          let k = and-both (not (t .price .received)) _ f in
+          omega (arith, ltb-false (B us) (S us) (sym (p .received) ∙ not-eq (t .price .received) (k .0)), p .size, ltb-true 0 (t .price .size .0) (k .1))
+      go (inr f) = omega (arith, p .size, ltb-true (t .price .size .0) n f)
+
+  pub sound22 : (us : List Leg) → Hs us → Priced us → buyBuy st t us ≡ true → ⊥
+  unfolding buyBuy sameSide
+  sound22 us h p e = go (or-either _ _ (passed _ e .1 .1 .0))
+    where
+      side : (s : Bool) → sameSide st t us s ≡ true → ⊥
+      side s f =
+          let k = and-both (all (λ u. sameBool s (u .bought)) us) _ f in
+          not-below s us (sizes us * st .increment .0) p (one-side v s us (k .0)) (increments s us h (k .0)) (k .1)
+
+      go : (sameSide st t us true ≡ true) ⊎ (sameSide st t us false ≡ true) → ⊥
+      go (inl f) = side true f
+      go (inr f) = side false f
+
+  pub sound23 : (us : List Leg) (class : ℕ) → Priced us → (class ≡ 1 → S us ≤ B us) → (class ≡ 2 → B us ≤ S us) → debitCredit t us class ≡ true → ⊥
+  unfolding debitCredit
+  sound23 us class p d c e = go (or-either _ _ (and-both (not (isSimple us)) _ e .1))
+    where
+      go : (every (isLimit t ∷ eqb class 1 ∷ isNegative (t .price) ∷ []) ≡ true) ⊎ (eqb class 2 && isPositive (t .price) ≡ true) → ⊥
+      go (inl f) =
+          let (f0, (f1, (f2, z))) = passed _ f in
+          let k = and-both (t .price .received) _ f2 in
+          omega (arith, d (eqb-true class 1 f1), ltb-true (B us) (S us) (sym (p .received) ∙ k .0))
+      go (inr f) =
+          let g = and-both (eqb class 2) _ f in
+          let k = and-both (not (t .price .received)) _ (g .1) in
+          omega (arith, c (eqb-true class 2 (g .0)), p .size, ltb-false (B us) (S us) (sym (p .received) ∙ not-eq (t .price .received) (k .0)), ltb-true 0 (t .price .size .0) (k .1))
+
+  -- a shape with a maximum value keeps to it
+  shape-max : (us : List Leg) → Hs us → hasMaximum (shapeOf us) ≡ true → (B us ≤ S us + maximumOf us) × (S us ≤ B us + maximumOf us)
+  unfolding shapeOf maximumOf
+  shape-max [] h e = absurd (true≢false (sym e))
+  shape-max (a ∷ []) h e = absurd (true≢false (sym e))
+  shape-max (a ∷ b ∷ []) h e = vertical-max st mk legs v fair a b (h .0) (h .1 .0) (shaped (isVertical a b) 1 e .0)
+  shape-max (a ∷ m ∷ b ∷ []) h e =
+      let k = shaped (isButterfly a m b) _ e in
+      fly-max st mk legs v fair a m b (h .0) (h .1 .0) (h .1 .1 .0) (k .0) (eqb-true _ _ (true-shape _ (k .1)))
+  shape-max (p ∷ q ∷ d ∷ c ∷ []) h e = box-max st mk legs v fair p q d c (h .0) (h .1 .0) (h .1 .1 .0) (h .1 .1 .1 .0) (shaped (isBox p q d c) 4 e .0)
+  shape-max (a ∷ b ∷ c ∷ d ∷ x ∷ r) h e = absurd (true≢false (sym e))
+
+  pub sound24 : (us : List Leg) → Hs us → Priced us → maximumValue st t us ≡ true → ⊥
+  unfolding maximumValue
+  sound24 us h p e =
+      let k = and-both (hasMaximum (shapeOf us)) _ e in
+      let w = shape-max us h (k .0) in
+      omega (arith, p .size, ltb-true (maximumOf us + allowance st (maximumOf us)) (t .price .size .0) (k .1), w .0, w .1)

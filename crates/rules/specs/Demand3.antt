@@ -1,0 +1,69 @@
+-- Demand 3, of the order check on the slices that the host lends.
+use mathlib.Core.Path.{_≡_}
+use mathlib.Core.List.{List}
+use mathlib.Core.Bool.{false}
+use Prim.Native.Nat.{ℕ, _≤_}
+use lib.ListN.{length}
+use lib.IntN.{ℤ, pos}
+use lib.Signed.{_≤ℤ_}
+use Rattle.rules.specs.declared.Series.{Series}
+use Rattle.rules.specs.declared.Leg.{Leg}
+use Rattle.rules.specs.declared.Settings.{Settings}
+use Rattle.rules.specs.declared.Market.{Market}
+use Rattle.rules.specs.declared.OrderAnswer.{OrderAnswer}
+use Rattle.rules.specs.Limits.{within}
+use Rattle.rules.specs.Lists.{All, Perm}
+use Rattle.rules.specs.Order.{Lent, symbolsOf, countsOf, lentLegs, termsOf, legsOf, netWorth}
+use Rattle.rules.specs.Fair.{Fair}
+use Rattle.rules.specs.Numbers.{areWhole, checkSlices}
+
+-- what both arrivals share: they are "alike in price, kind, flags, settings, market and all else"
+pub record Alike : Type 0 where
+  pub settings : Settings
+  pub market : Market
+  pub price : ℤ
+  pub kind : ℕ
+  pub stop : ℕ
+  pub manual : ℕ
+  pub opening : ℕ
+
+-- "an arrival in demand 3 is one call of it": the order check on symbol bytes and count bytes
+abbrev pub answerTo : Alike → List ℕ → List ℕ → OrderAnswer
+answerTo a symbols counts = checkSlices (a .settings) (a .market) (termsOf (a .price) (a .kind) (a .stop) (a .manual) (a .opening)) symbols counts
+
+abbrev pub arrival : Alike → List Lent → OrderAnswer
+arrival a xs = answerTo a (symbolsOf xs) (countsOf xs)
+
+-- "A leg is 21 symbol bytes, whatever they hold, with the count at the same place"
+abbrev pub IsWhole : Lent → Type 0
+IsWhole l = (length (l .symbol) ≡ 21) × (length (l .count) ≡ 8)
+
+-- "An order not refused is valid." Refusals are the numbers 1 to 12.
+abbrev pub IsValid : OrderAnswer → Type 0
+IsValid r = within 1 12 (r .number) ≡ false
+
+-- the legs of the order, as read
+abbrev pub legs : List Lent → List Leg
+legs xs = legsOf (lentLegs xs)
+
+-- "is rejected by a check if it gets that check's number": not by the put, call, buy-buy/sell-sell, debit/credit or maximum-value check
+abbrev pub NotRejected : OrderAnswer → Type 0
+NotRejected r = 20 ≤ r .number → r .number ≤ 24 → ⊥
+
+-- two arrivals of one order, the legs `ys` being `xs` in whatever other sequence
+pub record Arrivals (a : Alike) (xs ys : List Lent) : Type 0 where
+  -- "both arrivals [..] get the same number, class, shape and pairing count"
+  pub same : arrival a xs ≡ arrival a ys
+  -- "If the order is valid, then under every premium table that is fair for it as document 01 defines it, net worth is zero or more where the class is debit"
+  pub debit : IsValid (arrival a xs) → (premium : Series → ℕ) → Fair (a .settings) (a .market) (legs xs) premium → arrival a xs .class ≡ 1 → pos 0 ≤ℤ netWorth premium (legs xs)
+  -- "and zero or less where it is credit"
+  pub credit : IsValid (arrival a xs) → (premium : Series → ℕ) → Fair (a .settings) (a .market) (legs xs) premium → arrival a xs .class ≡ 2 → netWorth premium (legs xs) ≤ℤ pos 0
+  -- "And under every such table where the order's price equals its net worth, neither arrival is rejected by the put, call, buy-buy/sell-sell, debit/credit or maximum-value check."
+  pub sound : IsValid (arrival a xs) → (premium : Series → ℕ) → Fair (a .settings) (a .market) (legs xs) premium → a .price ≡ netWorth premium (legs xs) → NotRejected (arrival a xs) × NotRejected (arrival a ys)
+
+-- "Whatever order arrives, refused ones included, and in whatever other sequence its legs come in a second arrival"
+pub record Demand3 : Type 0 where
+  -- any number of whole legs, damaged ones too
+  pub whole : (a : Alike) (xs ys : List Lent) → All IsWhole xs → Perm xs ys → Arrivals a xs ys
+  -- slices that do not divide into legs have no other sequence of legs: all of one length get one answer
+  pub broken : (a : Alike) (s t c d : List ℕ) → length s ≡ length t → length c ≡ length d → areWhole s c ≡ false → answerTo a s c ≡ answerTo a t d
