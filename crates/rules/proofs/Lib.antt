@@ -4,6 +4,7 @@ pub mod Numerals
 pub mod Slices
 pub mod Symbols
 pub mod Divisor
+pub mod Sides
 pub mod Examples
 pub mod Demand1
 pub mod Demand2
