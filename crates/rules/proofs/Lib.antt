@@ -5,6 +5,7 @@ pub mod Slices
 pub mod Symbols
 pub mod Divisor
 pub mod Sides
+pub mod Pairings
 pub mod Examples
 pub mod Demand1
 pub mod Demand2
