@@ -6,6 +6,7 @@ pub mod Symbols
 pub mod Divisor
 pub mod Sides
 pub mod Pairings
+pub mod Contracts
 pub mod Examples
 pub mod Demand1
 pub mod Demand2
