@@ -9,7 +9,7 @@ use native.Mathlib.Omega.{arith}
 use Rattle.rules.specs.declared.Series.{Series}
 use Rattle.rules.specs.declared.Leg.{Leg}
 use Rattle.rules.specs.Lists.{sameBool, lex, insert, sort}
-use Rattle.rules.specs.Pairing.{Pair, Walked, less, pairOf, matched, reach, walk, oneExpiry, oneStrike, byExpiry, pairing}
+use Rattle.rules.specs.Pairing.{Pair, less, pairOf, matched, reach, walk, oneExpiry, oneStrike, byExpiry, pairing}
 
 -- the leg's contracts if it is of the side (true: bought)
 abbrev pub legContracts : Bool → Leg → ℕ
@@ -82,7 +82,8 @@ module _ (side : Bool) where
     insert-contracts x (y ∷ ys) = go (lex (key x) (key y)) (insert-contracts x ys)
       where
         go : (b : Bool) → contracts side (insert key x ys) ≡ legContracts side x + contracts side ys
-            → contracts side (cond b (x ∷ y ∷ ys) (y ∷ insert key x ys)) ≡ legContracts side x + (legContracts side y + contracts side ys)
+            → contracts side (cond b (x ∷ y ∷ ys) (y ∷ insert key x ys))
+            ≡ legContracts side x + (legContracts side y + contracts side ys)
         go true h = refl
         go false h = omega arith
 

@@ -7,6 +7,7 @@ pub mod Divisor
 pub mod Sides
 pub mod Pairings
 pub mod Contracts
+pub mod Scaling
 pub mod Examples
 pub mod Demand1
 pub mod Demand2

@@ -46,7 +46,8 @@ closes zero y (suc n) true e = absurd (omega arith)
 closes (suc x) zero (suc n) true e = absurd (omega arith)
 closes (suc x) (suc y) (suc n) true e = go (suc x - suc n) (suc y - suc n) (leb x y) refl refl refl
   where
-    go : (a b : ℕ) (l : Bool) → leb x y ≡ l → suc x - suc n ≡ a → suc y - suc n ≡ b → (1 + busy a + busy b ≤ 2) × (busy a ≤ 1) × (2 ≤ 2)
+    go : (a b : ℕ) (l : Bool) → leb x y ≡ l → suc x - suc n ≡ a → suc y - suc n ≡ b
+        → (1 + busy a + busy b ≤ 2) × (busy a ≤ 1) × (2 ≤ 2)
     go zero b l f p q = omega (arith, busy-one b)
     go (suc a) zero l f p q = omega arith
     go (suc a) (suc b) true f p q = absurd (omega (arith, leb-true x y f))
@@ -124,7 +125,8 @@ pairing-fewer european ls = go european
     go true = omega (arith, walk-fewer oneExpiry ls .1, running-length ls)
     go false =
         let one : Fewer (length (w .pairs)) (running (w .legs)) (running ls) = walk-fewer oneExpiry ls in
-        let two : Fewer (length (u .pairs)) (running (u .legs)) (running (byExpiry (w .legs))) = walk-fewer oneStrike (byExpiry (w .legs)) in
+        let two : Fewer (length (u .pairs)) (running (u .legs)) (running (byExpiry (w .legs)))
+        = walk-fewer oneStrike (byExpiry (w .legs)) in
         let same : running (byExpiry (w .legs)) ≡ running (w .legs) = running-sort _ (w .legs) in
         let l = length-append (w .pairs) (u .pairs) in
         let m = running-length ls in
