@@ -6,6 +6,9 @@ pub mod Slices
 pub mod Symbols
 pub mod Divisor
 pub mod Worth
+pub mod Sides
+pub mod Pairings
+pub mod Scaling
 pub mod Units
 pub mod Signs
 pub mod Groups

@@ -110,6 +110,11 @@ module _ (v : Series → ℕ) (side : Bool) where
       go true = walk-worth oneExpiry ls
       go false = omega (arith, walk-worth oneExpiry ls, again, walk-worth oneStrike (byExpiry (w .legs)), pairs-append (w .pairs) (u .pairs))
 
+-- both walks keep the contracts of each side: the worth at one for each contract
+pub pairing-contracts : (side european : Bool) (ls : List Leg) → let contracts = worth (λ s. 1) side in let w = pairing european ls in
+    contracts ls ≡ pairsWorth (λ s. 1) side (w .pairs) + contracts (w .legs)
+pairing-contracts side european ls = pairing-worth (λ s. 1) side european ls
+
 -- what is asked of the legs and of the pairs of a walk
 module _ (same : Series → Series → Bool) (P : Series → Type 0) (Q : Series → Series → Type 0)
     (ok : (s t : Series) → P s → P t → same s t ≡ true → Q s t × Q t s) where
