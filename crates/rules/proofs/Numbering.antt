@@ -1,11 +1,19 @@
 -- The first of listed numbers: what holds of each that applies holds of it.
-use mathlib.Core.Path.{_≡_, refl}
+use mathlib.Core.Path.{_≡_, refl, sym}
 use mathlib.Core.List.{List, [], _∷_}
-use mathlib.Core.Bool.{Bool, true, false, cond}
-use Prim.Native.Nat.{ℕ, suc}
+use mathlib.Core.Bool.{Bool, true, false, cond, _&&_, true≢false}
+use Prim.Native.Nat.{ℕ, suc, _≤_}
 use native.Mathlib.Omega.{arith}
+use lib.Dec.{leb}
+use borrow.Author.Tests.{leb-true}
 use Rattle.rules.specs.Lists.{All}
-use Rattle.rules.specs.Numbers.{firstOf}
+use Rattle.rules.proofs.Tests.{and-both}
+use Rattle.rules.specs.declared.RawLeg.{RawLeg}
+use Rattle.rules.specs.declared.Terms.{Terms}
+use Rattle.rules.specs.declared.Leg.{Leg}
+use Rattle.rules.specs.declared.Settings.{Settings}
+use Rattle.rules.specs.declared.Market.{Market}
+use Rattle.rules.specs.Numbers.{firstOf, refusals, refusal, rejections, rejection}
 
 pub first-of : (P : ℕ → Type 0) (es : List (Bool × ℕ)) → P 0 → All (λ e. e .0 ≡ true → P (e .1)) es → P (firstOf es)
 unfolding firstOf
@@ -21,3 +29,34 @@ pub none-applies : (b : Bool) (n : ℕ) (es : List (Bool × ℕ)) → firstOf ((
 unfolding firstOf
 none-applies true n es h = absurd (omega arith)
 none-applies false n es h = (refl, h)
+
+-- the numbers rise from `n`
+abbrev rises : ℕ → List (Bool × ℕ) → Bool
+rises n [] = true
+rises n (e ∷ es) = leb n (e .1) && rises (e .1) es
+
+above : (n m : ℕ) (es : List (Bool × ℕ)) → n ≤ m → rises m es ≡ true → All (λ f. f .0 ≡ true → n ≤ f .1) es
+above n m [] l h = tt
+above n m (e ∷ es) l h =
+    let k = and-both (leb m (e .1)) _ h in
+    let b = leb-true m (e .1) (k .0) in
+    ((λ t. omega arith), above n (e .1) es (omega arith) (k .1))
+
+-- "The lowest number that applies is given": the first of rising numbers
+lowest : (n : ℕ) (es : List (Bool × ℕ)) → rises n es ≡ true → All (λ e. e .0 ≡ true → firstOf es ≤ e .1) es
+unfolding firstOf
+lowest n [] h = tt
+lowest n (e ∷ es) h = let k = and-both (leb n (e .1)) _ h in go (e .0) (k .1) (lowest (e .1) es (k .1))
+  where
+    go : (b : Bool) → rises (e .1) es ≡ true → All (λ f. f .0 ≡ true → firstOf es ≤ f .1) es
+        → (b ≡ true → cond b (e .1) (firstOf es) ≤ e .1) × All (λ f. f .0 ≡ true → cond b (e .1) (firstOf es) ≤ f .1) es
+    go true r ih = ((λ t. omega arith), above (e .1) (e .1) es (omega arith) r)
+    go false r ih = ((λ t. absurd (true≢false (sym t))), ih)
+
+pub lowest-refusal : (st : Settings) (m : Market) (t : Terms) (n : ℕ) (rs : List RawLeg) → All (λ e. e .0 ≡ true → refusal st m t n rs ≤ e .1) (refusals st m t n rs)
+unfolding refusal
+lowest-refusal st m t n rs = lowest 0 (refusals st m t n rs) refl
+
+pub lowest-rejection : (st : Settings) (m : Market) (t : Terms) (us : List Leg) (class : ℕ) → All (λ e. e .0 ≡ true → rejection st m t us class ≤ e .1) (rejections st m t us class)
+unfolding rejection
+lowest-rejection st m t us class = lowest 0 (rejections st m t us class) refl

@@ -1,16 +1,24 @@
 -- Demand 1, of each entry's definition: "gets one of document 01's numbers"; "A refusal brings its number with all other fields but a tally zero, and lent bytes keep their contents."
 use mathlib.Core.Path.{_≡_}
 use mathlib.Core.Logic.{_⊎_}
-use mathlib.Core.List.{List}
+use mathlib.Core.List.{List, [], _∷_, List·Memᴰ}
+use mathlib.Core.Bool.{true}
 use Prim.Native.Nat.{ℕ}
 use Rattle.rules.specs.declared.SymbolParts.{SymbolParts}
 use Rattle.rules.specs.declared.SymbolRead.{SymbolRead}
-use Rattle.rules.specs.Symbol.{readSymbol, writeSymbol, refusedRead, SymbolWritten}
+use Rattle.rules.specs.declared.Terms.{Terms}
+use Rattle.rules.specs.declared.Order.{Order}
+use Rattle.rules.specs.declared.Settings.{Settings}
+use Rattle.rules.specs.declared.Market.{Market}
+use Rattle.rules.specs.declared.OrderAnswer.{OrderAnswer}
+use Rattle.rules.specs.Limits.{within}
+use Rattle.rules.specs.Numbers.{checkOrder, checkSlices}
+use Rattle.rules.specs.Symbol.{readSymbol, writeSymbol, SymbolWritten}
 
 -- the symbol reader: 0, 1 or 4
 pub record ReaderAnswers (r : SymbolRead) : Type 0 where
   pub number : (r .number ≡ 0) ⊎ ((r .number ≡ 1) ⊎ (r .number ≡ 4))
-  pub refusal : (r .number ≡ 0 → ⊥) → r ≡ refusedRead (r .number)
+  pub refusal : (r .number ≡ 0 → ⊥) → r .parts ≡ record { root = 0; year = 0; month = 0; day = 0; right = 0; strike = record { 0 = 0 } }
 
 abbrev pub Reader : Type 0
 Reader = (s : List ℕ) → ReaderAnswers (readSymbol s)
@@ -22,3 +30,15 @@ pub record WriterAnswers (buffer : List ℕ) (w : SymbolWritten) : Type 0 where
 
 abbrev pub Writer : Type 0
 Writer = (p : SymbolParts) (buffer : List ℕ) → WriterAnswers buffer (writeSymbol p buffer)
+
+-- the order check
+abbrev pub orderNumbers : List ℕ
+orderNumbers = 0 ∷ 1 ∷ 3 ∷ 4 ∷ 5 ∷ 6 ∷ 7 ∷ 8 ∷ 9 ∷ 10 ∷ 20 ∷ 21 ∷ 22 ∷ 23 ∷ 24 ∷ 25 ∷ []
+
+pub record OrderAnswers (r : OrderAnswer) : Type 0 where
+  pub number : List·Memᴰ (r .number) orderNumbers
+  pub refusal : within 1 12 (r .number) ≡ true → (r .class ≡ 0) × (r .shape ≡ 0) × (r .pairings ≡ 0)
+
+pub record OrderCheck : Type 0 where
+  pub slices : (st : Settings) (m : Market) (t : Terms) (symbols counts : List ℕ) → OrderAnswers (checkSlices st m t symbols counts)
+  pub orderRecord : (st : Settings) (m : Market) (o : Order) → OrderAnswers (checkOrder st m o)

@@ -48,11 +48,10 @@ isBadPrice t ls =
     || isSimple ls && all (λ l. not (cond (l .bought) (isPositive (t .price)) (isNegative (t .price)))) ls
 
 -- "3 no leg or above 16; 4 a symbol or its parts outside the layout; 5 a count outside its limits; 6 a series twice; 7 roots differ; 8 price too large, or [..]"; "9 one outside its limits"; "10 a market value or phase outside its limits". `n` is the number of legs.
-unfoldable pub refusal : Settings → Market → Terms → ℕ → List RawLeg → ℕ
-refusal st m t n rs =
+abbrev pub refusals : Settings → Market → Terms → ℕ → List RawLeg → List (Bool × ℕ)
+refusals st m t n rs =
     let ls = legsOf rs in
-    firstOf
-    ((not (within 1 16 n), 3)
+    (not (within 1 16 n), 3)
     ∷ (any (λ r. not (isSymbol (r .symbol))) rs, 4)
     ∷ (any isBadCount rs, 5)
     ∷ (somePair isSameSeries ls, 6)
@@ -60,19 +59,24 @@ refusal st m t n rs =
     ∷ (isBadPrice t ls, 8)
     ∷ (not (settingsHold st), 9)
     ∷ (not (marketHolds m), 10)
-    ∷ [])
+    ∷ []
+
+unfoldable pub refusal : Settings → Market → Terms → ℕ → List RawLeg → ℕ
+refusal st m t n rs = firstOf (refusals st m t n rs)
 
 -- "Checks, each with its own switch": 20 to 25, of unit legs and class
-unfoldable pub rejection : Settings → Market → Terms → List Leg → ℕ → ℕ
-rejection st m t us class =
-    firstOf
-    ((isYes (st .check20) && simpleBuy putTest t us, 20)
+abbrev pub rejections : Settings → Market → Terms → List Leg → ℕ → List (Bool × ℕ)
+rejections st m t us class =
+    (isYes (st .check20) && simpleBuy putTest t us, 20)
     ∷ (isYes (st .check21) && simpleBuy (callTest st m) t us, 21)
     ∷ (isYes (st .check22) && buyBuy st t us, 22)
     ∷ (isYes (st .check23) && debitCredit t us class, 23)
     ∷ (isYes (st .check24) && maximumValue st t us, 24)
     ∷ (isYes (st .check25) && tickDistance st m t us, 25)
-    ∷ [])
+    ∷ []
+
+unfoldable pub rejection : Settings → Market → Terms → List Leg → ℕ → ℕ
+rejection st m t us class = firstOf (rejections st m t us class)
 
 -- the answer to a valid order (document 01's term: not refused), of its legs in the first walk's sequence
 unfoldable pub judged : Settings → Market → Terms → List Leg → OrderAnswer
