@@ -11,6 +11,7 @@ use Rattle.rules.specs.declared.Terms.{Terms}
 use Rattle.rules.specs.declared.Order.{Order}
 use Rattle.rules.specs.declared.Series.{Series}
 use Rattle.rules.specs.declared.Leg.{Leg}
+use Rattle.rules.specs.declared.Legs.{Legs}
 use Rattle.rules.specs.declared.SymbolParts.{SymbolParts}
 use Rattle.rules.specs.Symbol.{partsOf}
 
@@ -72,6 +73,10 @@ legOf r = let p = partsOf (r .symbol) in record { root = p .root; series = serie
 
 unfoldable pub legsOf : List RawLeg → List Leg
 legsOf rs = map legOf rs
+
+-- the legs that a record of legs carries
+abbrev pub legsIn : Legs → List Leg
+legsIn l = take (l .len) (l .legs)
 
 -- "Unit counts are the counts divided by their greatest common divisor." By remainders; `n` bounds the steps, and one for each unit of `b` is enough.
 unfoldable pub gcdWithin : ℕ → ℕ → ℕ → ℕ

@@ -68,6 +68,12 @@ pub struct Leg {
     pub size: u64,
 }
 
+// Legs as read, up to 16.
+pub struct Legs {
+    pub legs: [Leg; 16],
+    pub len: usize,
+}
+
 // The exchange's settings. Switches and the last two: 0 is no, any other value yes.
 pub struct Settings {
     pub check20: u64,
