@@ -1,0 +1,4 @@
+pub mod Zip
+pub mod Tagging
+pub mod Walking
+pub mod Numbered

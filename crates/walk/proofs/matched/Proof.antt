@@ -1,0 +1,10 @@
+use Rattle.walk.specs.Tags.{matchedAt}
+use Rattle.walk.proofs.matched.Statement.{statement}
+use Rattle.walk.proofs.matched.Tie as tie
+
+returns : tie.Need-returns
+unfolding matchedAt
+returns c = cc
+
+pub matched-spec : {M : Type 1} → statement M
+matched-spec = tie.close (tie.spec (λ c κs. tt) (λ c κs. tt) (λ c κs. tt) (λ c κs. tt) returns)

@@ -1,0 +1,109 @@
+// One walk over legs that are listed latest walked first. A leg's tag is its key in the walk's sequence, doubled, and
+// one more where it is bought: so the group is the tag without the key's last eight digits and the side.
+use choice::both;
+use choice::choose;
+use choice::either;
+use choice::negated;
+use choice::pick;
+ghost use mathlib.Core.Path.{_≡_};
+ghost use Prim.Native.Nat.{_+_, _-_, _≤_, _<_, min};
+ghost use lib.ListN.{length};
+ghost use Rattle.walk.specs.Tags.{Tagged, matchedAt, debitKeys, noteAt, Reaches, Walks};
+
+// What is known of the pairs: their number, and whether one was a debit or a credit.
+pub struct Tally {
+    pub pairs: u64,
+    pub debit: bool,
+    pub credit: bool,
+}
+
+fn smaller(a: u64, b: u64) -> u64
+    ensures { λ r. ⌜ r ≡ min a b ⌝ }
+{
+    if a < b { a } else { b }
+}
+
+// How many contracts of two legs are matched: those of one group and of two sides.
+fn matched(tx: u64, x: u64, ty: u64, y: u64) -> u64
+    ensures { λ r. ⌜ r ≡ matchedAt tx x ty y ⌝ }
+{
+    pick(
+        both(tx / 200000000 == ty / 200000000, negated(tx % 2 == ty % 2)),
+        smaller(x, y),
+        0,
+    )
+}
+
+// Whether a pair of one group is a debit, by the keys of what is bought and sold.
+fn debit_keys(second: bool, buy: u64, sell: u64) -> bool
+    ensures { λ r. ⌜ r ≡ debitKeys second buy sell ⌝ }
+{
+    choose(second, buy < sell, sell < buy)
+}
+
+// The tally after a match of n contracts.
+fn note(t: Tally, second: bool, tx: u64, ty: u64, n: u64) -> Tally
+    requires { ⌜ t .pairs < 1000 ⌝ }
+    ensures { λ r. ⌜ (r ≡ noteAt t second tx ty n) × (r .pairs ≤ t .pairs + 1) ⌝ }
+{
+    if n == 0 {
+        return t;
+    }
+    let d = choose(
+        tx % 2 == 1,
+        debit_keys(second, tx / 2, ty / 2),
+        debit_keys(second, ty / 2, tx / 2),
+    );
+    Tally {
+        pairs: t.pairs + 1,
+        debit: either(t.debit, d),
+        credit: either(t.credit, negated(d)),
+    }
+}
+
+// The leg at i is reached, after all that stand behind it.
+fn reach(
+    tags: &[u64; 16],
+    left: &mut [u64; 16],
+    i: usize,
+    n: usize,
+    second: bool,
+    t: Tally,
+) -> Tally
+    requires { ⌜ Tagged (now tags) × (length (now left) ≡ 16) × (i < n) × (n ≤ 16) × (t .pairs < 900) ⌝ }
+    ensures { λ r. ⌜ Reaches (now (tags .entry)) (now (left .entry)) (now (left .exit)) i n second t r ⌝ }
+{
+    let tx = tags[i];
+    let mut x = left[i];
+    let mut r = t;
+    let mut j = i + 1;
+    while j < n {
+        let ty = tags[j];
+        let y = left[j];
+        let m = matched(tx, x, ty, y);
+        r = note(r, second, tx, ty, m);
+        left[j] = y - m;
+        x -= m;
+        j += 1;
+    }
+    left[i] = x;
+    r
+}
+
+// The walk over the first n legs: from the last to the first.
+pub fn walk(tags: &[u64; 16], left: &mut [u64; 16], n: usize, second: bool) -> Tally
+    requires { ⌜ Tagged (now tags) × (length (now left) ≡ 16) × (n ≤ 16) ⌝ }
+    ensures { λ r. ⌜ Walks (now (tags .entry)) (now (left .entry)) (now (left .exit)) n second r ⌝ }
+{
+    let mut t = Tally {
+        pairs: 0,
+        debit: false,
+        credit: false,
+    };
+    let mut i = n;
+    while 0 < i {
+        i -= 1;
+        t = reach(tags, left, i, n, second, t);
+    }
+    t
+}
