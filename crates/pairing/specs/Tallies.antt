@@ -1,0 +1,34 @@
+-- Loners beside the pairs, and the class by both.
+use mathlib.Core.Path.{_≡_}
+use mathlib.Core.List.{List, [], _∷_}
+use mathlib.Core.Bool.{Bool, cond, not, _&&_, _||_}
+use Prim.Native.Nat.{ℕ, _+_, _%_}
+use lib.ListN.{take}
+use lib.Dec.{eqb}
+use Rattle.rules.specs.declared.Leg.{Leg}
+use Rattle.walk.specs.declared.Tally.{Tally}
+use Rattle.walk.specs.Tags.{legsFrom}
+
+abbrev pub aloneWith : Tally → Bool → ℕ → Tally
+aloneWith t bought left =
+    let open′ = not (eqb left 0) in
+    record { pairs = t .pairs; debit = t .debit || open′ && bought; credit = t .credit || open′ && not bought }
+
+unfoldable pub aloneAt : Tally → ℕ → ℕ → Tally
+aloneAt t tag left = aloneWith t (eqb (tag % 2) 1) left
+
+-- a leg that is left over is a loner if it has contracts open
+abbrev pub allAlone : Tally → List Leg → Tally
+allAlone t [] = t
+allAlone t (x ∷ xs) = allAlone (aloneWith t (x .bought) (x .size)) xs
+
+pub record Loners (t : Tally) (tags left : List ℕ) (n : ℕ) (r : Tally) : Type 0 where
+  pub legs : (root : ℕ) (second : Bool) → r ≡ allAlone t (take n (legsFrom root second tags left))
+  pub pairs : r .pairs ≡ t .pairs
+
+abbrev pub together : Tally → Tally → Tally
+together a b = record { pairs = a .pairs + b .pairs; debit = a .debit || b .debit; credit = a .credit || b .credit }
+
+-- 1 debit, 2 credit, 0 undetermined
+abbrev pub tallyClass : Tally → ℕ
+tallyClass t = cond (t .credit) (cond (t .debit) 0 2) 1
