@@ -1,5 +1,5 @@
 -- Demand 3, from the parts: the sequence is sorted away, the class bears on the worth, and no check from 20 to 24 fires at it.
-use mathlib.Core.Path.{_≡_, refl, sym, ap, _∙_}
+use mathlib.Core.Path.{_≡_, refl, sym, ap, _∙_, subst₂}
 use mathlib.Core.List.{List, [], _∷_}
 use mathlib.Core.Bool.{Bool, true, false, _&&_, _||_, not, true≢false}
 use Prim.Native.Nat.{ℕ, zero, suc, _+_, _/_, _%_, _*_, _≤_, _<_}
@@ -11,17 +11,18 @@ use lib.Signed.{_≤ℤ_}
 use borrow.Author.Tests.{le-leb, leb-true}
 use Rattle.rules.specs.declared.RawLeg.{RawLeg}
 use Rattle.rules.specs.declared.Terms.{Terms}
+use Rattle.rules.specs.declared.Order.{Order}
 use Rattle.rules.specs.declared.Series.{Series}
 use Rattle.rules.specs.declared.Leg.{Leg}
 use Rattle.rules.specs.declared.Settings.{Settings}
 use Rattle.rules.specs.declared.Market.{Market}
 use Rattle.rules.specs.Limits.{within}
 use Rattle.rules.specs.Lists.{All, Perm, any}
-use Rattle.rules.specs.Order.{isYes, Lent, lentLegs, priceOf, termsOf, legOf, legsOf, units, netWorth}
+use Rattle.rules.specs.Order.{isYes, Lent, lentLegs, recordLegs, priceOf, termsOf, legOf, legsOf, units, netWorth}
 use Rattle.rules.specs.Pairing.{byStrike, pairing}
 use Rattle.rules.specs.Class.{classOf}
 use Rattle.rules.specs.Fair.{Has, Fair}
-use Rattle.rules.specs.Numbers.{firstOf, isBadCount, refusal, rejection, judged, refused, outcome, checkLegs, areWhole}
+use Rattle.rules.specs.Numbers.{firstOf, isBadCount, refusal, rejection, judged, refused, outcome, checkLegs, checkOrder}
 use Rattle.rules.specs.Demand3.{Alike, IsWhole, IsValid, NotRejected, arrival, legs, Arrivals, Demand3}
 use Rattle.rules.proofs.Tests.{and-both, or-neither, within-both}
 use Rattle.rules.proofs.Sorting.{all-perm, perm-sym, map-perm, length-perm}
@@ -32,7 +33,7 @@ use Rattle.rules.proofs.Signs.{worth-is, up-sign, down-sign}
 use Rattle.rules.proofs.ClassWorth.{has-all}
 use Rattle.rules.proofs.Sound.{codeOf, PriceIs, price-is, has-units, class-ls, Priced, sound20, sound21, sound22, sound23, sound24}
 use Rattle.rules.proofs.Sequence.{by-strike-is-perm, check-perm}
-use Rattle.rules.proofs.Slicing.{slices-are, slices-broken}
+use Rattle.rules.proofs.Slicing.{slices-are, slices-broken, whole-slices}
 
 -- legs whose counts are in their limits have contracts
 counted : (rs : List RawLeg) → any isBadCount rs ≡ false → Sized (legsOf rs)
@@ -129,50 +130,62 @@ module _ (st : Settings) (m : Market) (t : Terms) (ls : List Leg) (big : Sized l
       priced : PriceIs (t .price) (worth v true us) (worth v false us)
       priced = rw (p ∙ ap priceOf (e ∙ net-is)) (price-is (worth v true us) (worth v false us))
 
-module _ (a : Alike) (xs : List Lent) (w : All IsWhole xs) where
-  abbrev t : Terms
-  t = termsOf (a .price) (a .kind) (a .stop) (a .manual) (a .opening)
+-- the order check on legs in two sequences
+module _ (st : Settings) (m : Market) (t : Terms) (n : ℕ) (price : ℤ) (priced : t .price ≡ priceOf price) (rs qs : List RawLeg) (p : Perm rs qs) where
+  abbrev ls : List Leg
+  ls = legsOf rs
 
-  is-check : arrival a xs ≡ checkLegs (a .settings) (a .market) t (length xs) (lentLegs xs)
-  is-check = slices-are (a .settings) (a .market) t xs w
-
-  zero-refusal : IsValid (arrival a xs) → refusal (a .settings) (a .market) t (length xs) (lentLegs xs) ≡ 0
-  zero-refusal h = valid-judged (a .settings) (a .market) t (length xs) (lentLegs xs) (rw is-check at h)
-
-  is-judged : IsValid (arrival a xs) → arrival a xs ≡ judged (a .settings) (a .market) t (byStrike (legs xs))
+  is-judged : IsValid (checkLegs st m t n rs) → checkLegs st m t n rs ≡ judged st m t (byStrike ls)
   unfolding checkLegs outcome
-  is-judged h = is-check ∙ rw (zero-refusal h)
+  is-judged h = rw (valid-judged st m t n rs h)
 
-  module _ (h : IsValid (arrival a xs)) (v : Series → ℕ) (fair : Fair (a .settings) (a .market) (legs xs) v) where
-    big : Sized (legs xs)
-    big = sized (a .settings) (a .market) t (length xs) (lentLegs xs) (zero-refusal h)
+  module _ (h : IsValid (checkLegs st m t n rs)) (v : Series → ℕ) (fair : Fair st m ls v) where
+    big : Sized ls
+    big = sized st m t n rs (valid-judged st m t n rs h)
 
-    debit : arrival a xs .class ≡ 1 → pos 0 ≤ℤ netWorth v (legs xs)
+    debit : checkLegs st m t n rs .class ≡ 1 → pos 0 ≤ℤ netWorth v ls
     unfolding judged
-    debit e = debit-sign (a .settings) (a .market) t (legs xs) big v fair (sym (ap (λ r. r .class) (is-judged h)) ∙ e)
+    debit e = debit-sign st m t ls big v fair (sym (ap (λ r. r .class) (is-judged h)) ∙ e)
 
-    credit : arrival a xs .class ≡ 2 → netWorth v (legs xs) ≤ℤ pos 0
+    credit : checkLegs st m t n rs .class ≡ 2 → netWorth v ls ≤ℤ pos 0
     unfolding judged
-    credit e = credit-sign (a .settings) (a .market) t (legs xs) big v fair (sym (ap (λ r. r .class) (is-judged h)) ∙ e)
+    credit e = credit-sign st m t ls big v fair (sym (ap (λ r. r .class) (is-judged h)) ∙ e)
 
-    sound : a .price ≡ netWorth v (legs xs) → NotRejected (arrival a xs)
+    sound : price ≡ netWorth v ls → NotRejected (checkLegs st m t n rs)
     unfolding judged
-    sound e = rw (is-judged h) (not-rejected (a .settings) (a .market) t (legs xs) big v fair (a .price) refl e)
+    sound e = rw (is-judged h) (not-rejected st m t ls big v fair price priced e)
 
-same-arrival : (a : Alike) (xs ys : List Lent) → All IsWhole xs → Perm xs ys → arrival a xs ≡ arrival a ys
-same-arrival a xs ys w p =
-    is-check a xs w
-    ∙ rw (length-perm p) (check-perm (a .settings) (a .market) (t a xs w) (length ys) (map-perm _ p))
-    ∙ sym (is-check a ys (all-perm _ p w))
+  both-arrivals : Arrivals st m price ls (checkLegs st m t n rs) (checkLegs st m t n qs)
+  both-arrivals =
+      record {
+        same = check-perm st m t n p;
+        debit = debit;
+        credit = credit;
+        sound = λ h v f e. let x = sound h v f e in (x, rw (check-perm st m t n p) at x);
+      }
+
+whole-arrivals : (a : Alike) (xs ys : List Lent) → All IsWhole xs → Perm xs ys → Arrivals (a .settings) (a .market) (a .price) (legs xs) (arrival a xs) (arrival a ys)
+whole-arrivals a xs ys w p =
+    let t = termsOf (a .price) (a .kind) (a .stop) (a .manual) (a .opening) in
+    rw (
+      slices-are (a .settings) (a .market) t xs w,
+      slices-are (a .settings) (a .market) t ys (all-perm _ p w),
+      ← (length-perm p),
+    )
+    (both-arrivals (a .settings) (a .market) t (length xs) (a .price) refl (lentLegs xs) (lentLegs ys) (map-perm _ p))
+
+record-arrivals : (st : Settings) (m : Market) (o p : Order) (price : ℤ) → o .terms .price ≡ priceOf price → o .terms ≡ p .terms → o .len ≡ p .len → Perm (recordLegs o) (recordLegs p)
+    → Arrivals st m price (legsOf (recordLegs o)) (checkOrder st m o) (checkOrder st m p)
+unfolding checkOrder
+record-arrivals st m o p price e f g q =
+    subst₂ (λ (t : Terms) (n : ℕ). Arrivals st m price (legsOf (recordLegs o)) (checkLegs st m (o .terms) (o .len) (recordLegs o)) (checkLegs st m t n (recordLegs p))) f g
+    (both-arrivals st m (o .terms) (o .len) price e (recordLegs o) (recordLegs p) q)
 
 pub demand3 : Demand3
 demand3 =
     record {
-      whole = λ a xs ys w p. record {
-        same = same-arrival a xs ys w p;
-        debit = λ h v f. debit a xs w h v f;
-        credit = λ h v f. credit a xs w h v f;
-        sound = λ h v f e. let n = sound a xs w h v f e in (n, rw (same-arrival a xs ys w p) at n);
-      };
-      broken = λ a s t′ c d e f h. slices-broken (a .settings) (a .market) _ s c h ∙ sym (slices-broken (a .settings) (a .market) _ t′ d (rw (e, f) at h));
+      whole = whole-arrivals;
+      broken = λ a s t c d e f h. slices-broken (a .settings) (a .market) _ s c h ∙ sym (slices-broken (a .settings) (a .market) _ t d (rw (e, f) at h));
+      covers = whole-slices;
+      orderRecord = record-arrivals;
     }

@@ -1,11 +1,12 @@
 -- Demand 3, of the order check on the slices that the host lends.
 use mathlib.Core.Path.{_≡_}
 use mathlib.Core.List.{List}
-use mathlib.Core.Bool.{false}
+use mathlib.Core.Bool.{true, false}
 use Prim.Native.Nat.{ℕ, _≤_}
 use lib.ListN.{length}
 use lib.IntN.{ℤ, pos}
 use lib.Signed.{_≤ℤ_}
+use Rattle.rules.specs.declared.Order.{Order}
 use Rattle.rules.specs.declared.Series.{Series}
 use Rattle.rules.specs.declared.Leg.{Leg}
 use Rattle.rules.specs.declared.Settings.{Settings}
@@ -13,9 +14,9 @@ use Rattle.rules.specs.declared.Market.{Market}
 use Rattle.rules.specs.declared.OrderAnswer.{OrderAnswer}
 use Rattle.rules.specs.Limits.{within}
 use Rattle.rules.specs.Lists.{All, Perm}
-use Rattle.rules.specs.Order.{Lent, symbolsOf, countsOf, lentLegs, termsOf, legsOf, netWorth}
+use Rattle.rules.specs.Order.{Lent, symbolsOf, countsOf, lentLegs, recordLegs, priceOf, termsOf, legsOf, netWorth}
 use Rattle.rules.specs.Fair.{Fair}
-use Rattle.rules.specs.Numbers.{areWhole, checkSlices}
+use Rattle.rules.specs.Numbers.{checkOrder, areWhole, checkSlices}
 
 -- what both arrivals share: they are "alike in price, kind, flags, settings, market and all else"
 pub record Alike : Type 0 where
@@ -50,20 +51,25 @@ legs xs = legsOf (lentLegs xs)
 abbrev pub NotRejected : OrderAnswer → Type 0
 NotRejected r = 20 ≤ r .number → r .number ≤ 24 → ⊥
 
--- two arrivals of one order, the legs `ys` being `xs` in whatever other sequence
-pub record Arrivals (a : Alike) (xs ys : List Lent) : Type 0 where
+-- what is promised of two arrivals of one order with these legs, this price and the answers `x` and `y`
+pub record Arrivals (st : Settings) (m : Market) (price : ℤ) (ls : List Leg) (x y : OrderAnswer) : Type 0 where
   -- "both arrivals [..] get the same number, class, shape and pairing count"
-  pub same : arrival a xs ≡ arrival a ys
+  pub same : x ≡ y
   -- "If the order is valid, then under every premium table that is fair for it as document 01 defines it, net worth is zero or more where the class is debit"
-  pub debit : IsValid (arrival a xs) → (premium : Series → ℕ) → Fair (a .settings) (a .market) (legs xs) premium → arrival a xs .class ≡ 1 → pos 0 ≤ℤ netWorth premium (legs xs)
+  pub debit : IsValid x → (premium : Series → ℕ) → Fair st m ls premium → x .class ≡ 1 → pos 0 ≤ℤ netWorth premium ls
   -- "and zero or less where it is credit"
-  pub credit : IsValid (arrival a xs) → (premium : Series → ℕ) → Fair (a .settings) (a .market) (legs xs) premium → arrival a xs .class ≡ 2 → netWorth premium (legs xs) ≤ℤ pos 0
+  pub credit : IsValid x → (premium : Series → ℕ) → Fair st m ls premium → x .class ≡ 2 → netWorth premium ls ≤ℤ pos 0
   -- "And under every such table where the order's price equals its net worth, neither arrival is rejected by the put, call, buy-buy/sell-sell, debit/credit or maximum-value check."
-  pub sound : IsValid (arrival a xs) → (premium : Series → ℕ) → Fair (a .settings) (a .market) (legs xs) premium → a .price ≡ netWorth premium (legs xs) → NotRejected (arrival a xs) × NotRejected (arrival a ys)
+  pub sound : IsValid x → (premium : Series → ℕ) → Fair st m ls premium → price ≡ netWorth premium ls → NotRejected x × NotRejected y
 
 -- "Whatever order arrives, refused ones included, and in whatever other sequence its legs come in a second arrival"
 pub record Demand3 : Type 0 where
   -- any number of whole legs, damaged ones too
-  pub whole : (a : Alike) (xs ys : List Lent) → All IsWhole xs → Perm xs ys → Arrivals a xs ys
+  pub whole : (a : Alike) (xs ys : List Lent) → All IsWhole xs → Perm xs ys → Arrivals (a .settings) (a .market) (a .price) (legs xs) (arrival a xs) (arrival a ys)
   -- slices that do not divide into legs have no other sequence of legs: all of one length get one answer
   pub broken : (a : Alike) (s t c d : List ℕ) → length s ≡ length t → length c ≡ length d → areWhole s c ≡ false → answerTo a s c ≡ answerTo a t d
+  -- and there are no other slices: those that divide are whole legs end to end
+  pub covers : (s c : List ℕ) → areWhole s c ≡ true → (xs : List Lent) × All IsWhole xs × (symbolsOf xs ≡ s) × (countsOf xs ≡ c)
+  -- the same of the order record, whatever it holds
+  pub orderRecord : (st : Settings) (m : Market) (o p : Order) (price : ℤ) → o .terms .price ≡ priceOf price → o .terms ≡ p .terms → o .len ≡ p .len → Perm (recordLegs o) (recordLegs p)
+      → Arrivals st m price (legsOf (recordLegs o)) (checkOrder st m o) (checkOrder st m p)
