@@ -7,6 +7,7 @@ use Prim.Native.Nat.{ℕ, zero, suc, _+_, _-_, _*_, _/_, _≤_, _<_, min, max}
 use native.Mathlib.Nat.{div-self, mul-le-mul-left}
 use native.Mathlib.Omega.{arith}
 use lib.Dec.{ltb, leb, eqb}
+use lib.ListN.{length}
 use lib.IntN.{ℤ, pos, negsuc, negℤ, _-ℤ_}
 use borrow.Author.Tests.{ltb-true, ltb-false, leb-true, leb-false, eqb-true, le-ltb, lt-ltb}
 use Rattle.rules.specs.declared.Mills.{Mills}
@@ -17,7 +18,7 @@ use Rattle.rules.specs.declared.Leg.{Leg}
 use Rattle.rules.specs.declared.Settings.{Settings}
 use Rattle.rules.specs.declared.Market.{Market}
 use Rattle.rules.specs.Lists.{All, sameBool, all, every}
-use Rattle.rules.specs.Order.{isYes, isSimple, priceOf, gcd, gcdWithin, commonDivisor, units}
+use Rattle.rules.specs.Order.{isYes, isComplex, priceOf, gcd, gcdWithin, commonDivisor, units}
 use Rattle.rules.specs.Pairing.{Walked, pairing}
 use Rattle.rules.specs.Class.{isVertical, isButterfly, isTrue, isLeaning, isBox, shapeOf, allOf, pairClass, classOf}
 use Rattle.rules.specs.Checks.{isLimit, isPositive, isNegative, putTest, callTest, simpleBuy, sizes, isBelow, sameSide, buyBuy, debitCredit, maximumOf, allowance, hasMaximum, maximumValue}
@@ -145,12 +146,16 @@ module _ (st : Settings) (mk : Market) (t : Terms) (legs : List Leg) (v : Series
 
   simple-sound : (test : Series → Mills → Bool) → ((s : Series) (paid : Mills) → Has legs s → paid .0 ≡ v s → test s paid ≡ true → ⊥)
       → (ls : List Leg) → Hs ls → Sized ls → Priced (units ls) → simpleBuy test t (units ls) ≡ true → ⊥
-  unfolding simpleBuy units
-  simple-sound test never [] h z p e = true≢false (sym e)
+  unfolding simpleBuy units all
+  simple-sound test never [] h z p e = true≢false (sym (passed _ e .0))
   simple-sound test never (l ∷ []) h z p e =
-      let (e0, (e1, (e2, (e3, e4)))) = passed _ e in
-      never (l .series) (t .price .size) (h .0) (single l (z .0) e1 p) e3
-  simple-sound test never (l ∷ k ∷ r) h z p e = true≢false (sym e)
+      let (one, (skip, (paid, (each, rest)))) = passed _ e in
+      let k = and-both _ true each in
+      let f = and-both (l .bought) _ (k .0) in
+      never (l .series) (t .price .size) (h .0) (single l (z .0) (f .0) p) (f .1)
+  simple-sound test never (l ∷ k ∷ r) h z p e =
+      let one : length (units (l ∷ k ∷ r)) ≡ 1 = eqb-true (length (units (l ∷ k ∷ r))) 1 (passed _ e .0) in
+      absurd (omega arith)
 
   pub sound20 : (ls : List Leg) → Hs ls → Sized ls → Priced (units ls) → simpleBuy putTest t (units ls) ≡ true → ⊥
   unfolding putTest
@@ -201,7 +206,7 @@ module _ (st : Settings) (mk : Market) (t : Terms) (legs : List Leg) (v : Series
 
   pub sound23 : (us : List Leg) (class : ℕ) → Priced us → (class ≡ 1 → S us ≤ B us) → (class ≡ 2 → B us ≤ S us) → debitCredit t us class ≡ true → ⊥
   unfolding debitCredit
-  sound23 us class p d c e = go (or-either _ _ (and-both (not (isSimple us)) _ e .1))
+  sound23 us class p d c e = go (or-either _ _ (and-both (isComplex us) _ e .1))
     where
       go : (every (isLimit t ∷ eqb class 1 ∷ isNegative (t .price) ∷ []) ≡ true) ⊎ (eqb class 2 && isPositive (t .price) ≡ true) → ⊥
       go (inl f) =

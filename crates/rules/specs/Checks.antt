@@ -11,7 +11,7 @@ use Rattle.rules.specs.declared.Leg.{Leg}
 use Rattle.rules.specs.declared.Settings.{Settings}
 use Rattle.rules.specs.declared.Market.{Market}
 use Rattle.rules.specs.Lists.{sameBool, all, every}
-use Rattle.rules.specs.Order.{isYes, isSimple}
+use Rattle.rules.specs.Order.{isYes, isSimple, isComplex}
 use Rattle.rules.specs.Class.{strikeOf, shapeOf}
 
 abbrev pub isLimit : Terms → Bool
@@ -44,9 +44,13 @@ isSkipped t = isYes (t .kind) && isYes (t .opening)
 
 -- a simple buy that 20 and 21 do not skip, whose series and price pass the test
 unfoldable pub simpleBuy : (Series → Mills → Bool) → Terms → List Leg → Bool
-simpleBuy test t [] = false
-simpleBuy test t (u ∷ []) = every (not (isSkipped t) ∷ u .bought ∷ not (t .price .received) ∷ test (u .series) (t .price .size) ∷ [])
-simpleBuy test t (u ∷ w ∷ r) = false
+simpleBuy test t us =
+    every
+    (isSimple us
+    ∷ not (isSkipped t)
+    ∷ not (t .price .received)
+    ∷ all (λ u. u .bought && test (u .series) (t .price .size)) us
+    ∷ [])
 
 unfoldable pub sizes : List Leg → ℕ
 sizes [] = 0
@@ -60,14 +64,14 @@ unfoldable pub sameSide : Settings → Terms → List Leg → Bool → Bool
 sameSide st t us side = all (λ u. sameBool side (u .bought)) us && isBelow side (t .price) (sizes us * st .increment .0)
 
 unfoldable pub buyBuy : Settings → Terms → List Leg → Bool
-buyBuy st t us = every (not (isSimple us) ∷ isLimit t ∷ (sameSide st t us true || sameSide st t us false) ∷ [])
+buyBuy st t us = every (isComplex us ∷ isLimit t ∷ (sameSide st t us true || sameSide st t us false) ∷ [])
 
 -- "23 debit/credit: complex limit order, a debit with negative price or a credit with positive; complex market order, only a credit with positive price."
 unfoldable pub debitCredit : Terms → List Leg → ℕ → Bool
 debitCredit t us class =
-    not (isSimple us) && (every (isLimit t ∷ eqb class 1 ∷ isNegative (t .price) ∷ []) || eqb class 2 && isPositive (t .price))
+    isComplex us && (every (isLimit t ∷ eqb class 1 ∷ isNegative (t .price) ∷ []) || eqb class 2 && isPositive (t .price))
 
--- "M is the strike difference (true butterfly: middle less lowest)."
+-- "M is the strike difference (true butterfly: middle less lowest)." Only shapes 1, 2 and 4 are asked; of two strikes one difference is 0.
 unfoldable pub maximumOf : List Leg → ℕ
 maximumOf [] = 0
 maximumOf (a ∷ []) = 0

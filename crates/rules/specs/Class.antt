@@ -1,4 +1,4 @@
--- Document 01, Class and shape. Unit legs come in the first walk's sequence: puts from the lowest strike up, then calls from the highest down.
+-- Document 01, Class and shape. Unit legs come in the first walk's sequence, latest walked first: puts by expiry and then from the lowest strike up, then calls by expiry and from the highest strike down. Every shape is of one expiry.
 use mathlib.Core.List.{List, [], _∷_}
 use mathlib.Core.Bool.{Bool, true, false, cond, not, _&&_, _||_}
 use Prim.Native.Nat.{ℕ, _+_, _-_, _*_, min}

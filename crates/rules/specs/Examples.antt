@@ -81,7 +81,7 @@ calls n dollars = lent n 67 1 15 dollars
 abbrev pub puts : ℤ → ℕ → Lent
 puts n dollars = lent n 80 1 15 dollars
 
--- an order and its expected answer
+-- An order and its expected answer. Document 01 gives the number, and the class or the pairings where it names them; the other fields, root, dates and T8's strike and price are added here.
 pub record Case : Type 0 where
   pub european : ℕ
   pub price : ℤ

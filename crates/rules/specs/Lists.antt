@@ -1,9 +1,10 @@
--- Tests on lists, and lists in another sequence.
+-- Tests on lists, and lists in another sequence. A help to the sections of document 01, of no section itself.
 use mathlib.Core.List.{List, [], _∷_}
 use mathlib.Core.Bool.{Bool, true, false, cond, not, _&&_, _||_}
 use Prim.Native.Nat.{ℕ}
 use lib.Dec.{ltb}
 
+-- both yes or both no
 abbrev pub sameBool : Bool → Bool → Bool
 sameBool a b = cond a b (not b)
 

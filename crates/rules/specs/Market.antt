@@ -10,9 +10,9 @@ use Rattle.rules.specs.declared.Leg.{Leg}
 use Rattle.rules.specs.declared.Settings.{Settings}
 use Rattle.rules.specs.declared.Market.{Market}
 use Rattle.rules.specs.Limits.{within}
-use Rattle.rules.specs.Lists.{sameBool, every}
+use Rattle.rules.specs.Lists.{all, every}
 use Rattle.rules.specs.Quantities.{distance}
-use Rattle.rules.specs.Order.{isYes}
+use Rattle.rules.specs.Order.{isYes, isSimple}
 use Rattle.rules.specs.Checks.{isLimit}
 
 -- "0 missing"
@@ -61,19 +61,25 @@ tickAt st r = cond (ltb (r .0) 3000) (st .lowtick) (st .hightick)
 abbrev pub isBeyond : Bool → ℕ → ℕ → ℕ → Bool
 isBeyond bought amount reference d = cond bought (ltb (reference + d) amount) (ltb (amount + d) reference)
 
--- "25 tick distance (002), simple limit orders without stop or manual flag". "Reference missing: no check."
+-- D is the distance set for the reference's band, "2 to 1,000 ticks, times the tick at the reference"
+unfoldable pub limitDistance : Settings → Mills → Mills
+limitDistance st r = distance (acceptableTicks st r) (tickAt st r)
+
+-- a leg whose amount is beyond its reference. "Reference missing: no check."
+unfoldable pub isTooFar : Settings → Market → Terms → Leg → Bool
+isTooFar st m t u =
+    let r = reference (u .bought) m in not (isMissing r) && isBeyond (u .bought) (t .price .size .0) (r .0) (limitDistance st r .0)
+
+-- "25 tick distance (002), simple limit orders without stop or manual flag"
 unfoldable pub tickDistance : Settings → Market → Terms → List Leg → Bool
-tickDistance st m t [] = false
-tickDistance st m t (u ∷ []) =
-    let r = reference (u .bought) m in
+tickDistance st m t us =
     every
-    (isLimit t
+    (isSimple us
+    ∷ isLimit t
     ∷ not (isYes (t .stop))
     ∷ not (isYes (t .manual))
-    ∷ not (isMissing r)
-    ∷ isBeyond (u .bought) (t .price .size .0) (r .0) (distance (acceptableTicks st r) (tickAt st r) .0)
+    ∷ all (isTooFar st m t) us
     ∷ [])
-tickDistance st m t (u ∷ w ∷ us) = false
 
 -- "Settings: [..] two ticks [..] and the net increment 1 to 1,000; the four ATDs 2 to 1,000; percentage 0 to 10,000; presets 0 to 1,000,000, minimum not above maximum; set ticks 0 to 1,000"
 unfoldable pub settingsHold : Settings → Bool

@@ -85,7 +85,7 @@ isSymbol s =
 abbrev pub refusedRead : ℕ → SymbolRead
 refusedRead n = record { number = n; parts = record { root = 0; year = 0; month = 0; day = 0; right = 0; strike = record { 0 = 0 } } }
 
--- The symbol reader. "The host: 1 symbol bytes are not 21 per count (quote, reader: not 21)"; "The trading firm: 4 a symbol or its parts outside the layout".
+-- The symbol reader. The host: "1 symbol bytes are not 21 per count (quote, reader: not 21)". The trading firm: "4 a symbol or its parts outside the layout".
 unfoldable pub readSymbol : List ℕ → SymbolRead
 readSymbol s = cond (eqb (length s) 21) (cond (isSymbol s) (record { number = 0; parts = partsOf s }) (refusedRead 4)) (refusedRead 1)
 
@@ -101,7 +101,7 @@ pub record SymbolWritten : Type 0 where
 abbrev pub refusedWrite : ℕ → List ℕ → SymbolWritten
 refusedWrite n buffer = record { number = n; handed = 0; buffer = buffer }
 
--- The symbol writer. "The host: 2 fewer than 21 bytes to write in"; 4 as above. It "hands back the 21 bytes written as a part of the lent buffer; bytes after them keep their values".
+-- The symbol writer. The host: "2 fewer than 21 bytes to write in"; 4 as above. It "hands back the 21 bytes written as a part of the lent buffer; bytes after them keep their values".
 unfoldable pub writeSymbol : SymbolParts → List ℕ → SymbolWritten
 writeSymbol p buffer =
     cond (ltb (length buffer) 21)

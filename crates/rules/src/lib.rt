@@ -24,14 +24,14 @@ pub struct SymbolRead {
     pub parts: SymbolParts,
 }
 
-// One leg as it arrives: the count's side and size, and 21 symbol bytes, whatever they hold.
+// One leg as it arrives: the count's side and size, and 21 symbol bytes, whatever they hold. A count of 0 is bought, of size 0.
 pub struct RawLeg {
     pub bought: bool,
     pub size: u64,
     pub symbol: [u8; 21],
 }
 
-// The price for one unit: paid, or received where it is negative.
+// The price for one unit: paid, or received where it is negative. A size of 0 is zero either way.
 pub struct Price {
     pub received: bool,
     pub size: Mills,
@@ -101,7 +101,8 @@ pub struct Settings {
     pub european: u64,
 }
 
-// The market's values; 0 is missing. Phase: 0 pre-opening, 1 open, 2 halt.
+// The market's values. Phase: 0 pre-opening, 1 open, 2 halt. Open elsewhere, extended hours: 0 is no, any other value yes.
+// Amounts: 0 is missing.
 pub struct Market {
     pub phase: u64,
     pub elsewhere: u64,
