@@ -1,4 +1,4 @@
--- T1 to T8, by computing the definitions.
+-- T1 to T8 and the walks' directions, by computing the definitions.
 use mathlib.Core.Path.{refl}
 use Rattle.rules.specs.Lists.{all, any, somePair, every, lex, insert, sort}
 use Rattle.rules.specs.Numerals.{value, numeral, areDigits}
@@ -10,8 +10,14 @@ use Rattle.rules.specs.Class.{isVertical, isButterfly, isBox, shapeOf, i
 use Rattle.rules.specs.Checks.{putTest, callTest, simpleBuy, sizes, isBelow, sameSide, buyBuy, debitCredit, maximumOf, allowance, maximumValue}
 use Rattle.rules.specs.Market.{isBroken, elsewhereReference, reference, acceptableTicks, tickAt, limitDistance, isTooFar, tickDistance, settingsHold, marketHolds}
 use Rattle.rules.specs.Numbers.{firstOf, isBadPrice, refusal, rejection, judged, outcome, checkLegs, checkSlices}
-use Rattle.rules.specs.Examples.{Examples}
+use Rattle.rules.specs.Examples.{Examples, Directions}
+
+computed : Examples × Directions
+unfolding all any somePair every lex insert sort value numeral areDigits distance areSpaces isRootTail isRoot leapDay daysIn dayExists inLimits symbolOf partsOf isSymbol word rawLeg rawLegs priceOf legOf legsOf gcdWithin gcd commonDivisor units pairOf matched reach walk byStrike byExpiry pairing isDebit isVertical isButterfly isBox shapeOf isLeaning allOf pairClass classOf putTest callTest simpleBuy sizes isBelow sameSide buyBuy debitCredit maximumOf allowance maximumValue isBroken elsewhereReference reference acceptableTicks tickAt limitDistance isTooFar tickDistance settingsHold marketHolds firstOf isBadPrice refusal rejection judged outcome checkLegs checkSlices
+computed = (refl, refl)
 
 pub examples : Examples
-unfolding all any somePair every lex insert sort value numeral areDigits distance areSpaces isRootTail isRoot leapDay daysIn dayExists inLimits symbolOf partsOf isSymbol word rawLeg rawLegs priceOf legOf legsOf gcdWithin gcd commonDivisor units pairOf matched reach walk byStrike byExpiry pairing isDebit isVertical isButterfly isBox shapeOf isLeaning allOf pairClass classOf putTest callTest simpleBuy sizes isBelow sameSide buyBuy debitCredit maximumOf allowance maximumValue isBroken elsewhereReference reference acceptableTicks tickAt limitDistance isTooFar tickDistance settingsHold marketHolds firstOf isBadPrice refusal rejection judged outcome checkLegs checkSlices
-examples = refl
+examples = computed .0
+
+pub directions : Directions
+directions = computed .1

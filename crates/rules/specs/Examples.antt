@@ -122,6 +122,19 @@ cases =
     ∷ record { european = 1; price = minus 1000; legs = lent (pos 1) 67 3 19 20 ∷ lent (minus 1) 67 6 18 20 ∷ []; expected = answers 0 0 0 0 }
     ∷ []
 
+-- What T1 to T8 do not tell apart: where each walk begins, and which open contracts come first.
+abbrev pub directions : List Case
+directions =
+    -- calls from the lowest strike up: the buy at 30 meets the sell at 20
+    case (minus 1000) (calls (pos 1) 30 ∷ calls (minus 1) 20 ∷ calls (minus 1) 40 ∷ []) (answers 0 2 0 1)
+    -- puts from the highest down: the buy at 30 meets the sell at 40
+    ∷ case (minus 1000) (puts (pos 1) 30 ∷ puts (minus 1) 20 ∷ puts (minus 1) 40 ∷ []) (answers 0 2 0 1)
+    -- the latest-walked strike first: the sells at 30 meet the buy at 20, then one at 10
+    ∷ case (pos 1000) (calls (pos 2) 10 ∷ calls (pos 1) 20 ∷ calls (minus 2) 30 ∷ []) (answers 0 1 0 2)
+    -- T10: from the nearest expiry to the farthest
+    ∷ case (pos 0) (lent (pos 1) 67 3 19 20 ∷ lent (minus 1) 67 6 18 20 ∷ lent (pos 1) 67 9 17 20 ∷ []) (answers 0 0 0 1)
+    ∷ []
+
 -- the order check's answer to a case
 abbrev pub given : Case → OrderAnswer
 given c = checkSlices (exampleSettings (c .european)) exampleMarket (exampleTerms (c .price)) (symbolsOf (c .legs)) (countsOf (c .legs))
@@ -137,3 +150,6 @@ expecteds (c ∷ cs) = c .expected ∷ expecteds cs
 -- T1 to T8, jointly
 abbrev pub Examples : Type 0
 Examples = givens cases ≡ expecteds cases
+
+abbrev pub Directions : Type 0
+Directions = givens directions ≡ expecteds directions
