@@ -1,4 +1,4 @@
--- An array that is filled from the front with a number of each leg.
+-- An array that is filled from the front with a number of each element.
 use mathlib.Core.Path.{_≡_, refl, sym, ap, ap₂, _∙_}
 use mathlib.Core.List.{List, [], _∷_, _++_, map}
 use mathlib.Core.Bool.{Bool, true, false}
@@ -9,17 +9,15 @@ use lib.ListN.{length, take, getD, set, replicate}
 use lib.Seq.{take-suc, take-suc-set, getD-set-same, getD-set-other, set-out}
 use lib.Dec.{eqb, ltb}
 use borrow.Author.Tests.{eqb-true, eqb-false, ltb-true, ltb-false}
-use Rattle.rules.specs.declared.Leg.{Leg}
-use Rattle.walk.specs.Tags.{noLeg}
 
-map-append : (f : Leg → ℕ) (xs ys : List Leg) → map f (xs ++ ys) ≡ map f xs ++ map f ys
-map-append f [] ys = refl
-map-append f (x ∷ xs) ys = ap (λ (zs : List ℕ). f x ∷ zs) (map-append f xs ys)
+module _ {A : Type 0} (d : A) (f : A → ℕ) where
+  map-append : (xs ys : List A) → map f (xs ++ ys) ≡ map f xs ++ map f ys
+  map-append [] ys = refl
+  map-append (x ∷ xs) ys = ap (λ (zs : List ℕ). f x ∷ zs) (map-append xs ys)
 
-pub fill-turn : (f : Leg → ℕ) (legs : List Leg) (xs : List ℕ) (i v : ℕ) → i < length legs → i < length xs → v ≡ f (getD legs i noLeg) → take i xs ≡ map f (take i legs)
-    → take (i + 1) (set xs i v) ≡ map f (take (i + 1) legs)
-fill-turn f legs xs i v h k e g =
-    rw (add-one, take-suc-set xs i v k, take-suc legs i noLeg h, map-append f (take i legs) (getD legs i noLeg ∷ []), g, e)
+  pub fill-turn : (xs : List A) (ns : List ℕ) (i v : ℕ) → i < length xs → i < length ns → v ≡ f (getD xs i d) → take i ns ≡ map f (take i xs)
+      → take (i + 1) (set ns i v) ≡ map f (take (i + 1) xs)
+  fill-turn xs ns i v h k e g = rw (add-one, take-suc-set ns i v k, take-suc xs i d h, map-append (take i xs) (getD xs i d ∷ []), g, e)
 
 -- every number stays below a bound
 pub below-turn : (b : ℕ) (xs : List ℕ) (i v : ℕ) → v < b → ((k : ℕ) → getD xs k 0 < b) → (k : ℕ) → getD (set xs i v) k 0 < b

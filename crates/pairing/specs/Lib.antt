@@ -1,2 +1,3 @@
 pub mod Legs
+pub mod Second
 pub mod Tallies

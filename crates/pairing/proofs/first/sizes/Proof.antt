@@ -26,7 +26,7 @@ loop-again c =
     let l = c .before .loop in
     let h : l .i < s .args .t1 .len = omega arith in
     let v = getD (s .args .t1 .legs) (l .i) noLeg .size in (
-      fill-turn (λ x. x .size) (s .args .t1 .legs) (l .sizes) (l .i) v (omega (arith, full s, s .pre)) (omega (arith, l .inv .1, s .pre)) refl (l .inv .0),
+      fill-turn noLeg (λ x. x .size) (s .args .t1 .legs) (l .sizes) (l .i) v (omega (arith, full s, s .pre)) (omega (arith, l .inv .1, s .pre)) refl (l .inv .0),
       length-set (l .sizes) (l .i) v ∙ l .inv .1,
       omega arith,
     )

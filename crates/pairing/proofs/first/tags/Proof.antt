@@ -6,6 +6,7 @@ use Prim.Native.Nat.{ℕ, _≤_, _-_, _<_, _+_}
 use native.Mathlib.Omega.{arith}
 use lib.ListN.{length, take, getD, length-map, length-set}
 use Rattle.rules.specs.declared.Leg.{Leg}
+use Rattle.walk.specs.Tags.{noLeg}
 use Rattle.pairing.specs.Legs.{tagOf}
 use Rattle.pairing.proofs.Filling.{fill-turn, below-turn, zeros-below}
 use Rattle.pairing.proofs.first.tags.Statement.{statement}
@@ -33,7 +34,7 @@ loop-again c =
     let l = c .before .before .before .loop in
     let h : l .i < s .args .t1 .len = omega arith in
     let v = c .tag-of .result in (
-      fill-turn tagOf (s .args .t1 .legs) (l .tags) (l .i) v (omega (arith, full s, s .pre .few)) (omega (arith, l .inv .1, s .pre .few)) (c .tag-of .ensures .0) (l .inv .0),
+      fill-turn noLeg tagOf (s .args .t1 .legs) (l .tags) (l .i) v (omega (arith, full s, s .pre .few)) (omega (arith, l .inv .1, s .pre .few)) (c .tag-of .ensures .0) (l .inv .0),
       length-set (l .tags) (l .i) v ∙ l .inv .1,
       below-turn 40000000000000000 (l .tags) (l .i) v (c .tag-of .ensures .1) (l .inv .2),
       omega arith,

@@ -1,0 +1,55 @@
+// What the first walk left, as the second walk takes it.
+ghost use mathlib.Core.Path.{_≡_};
+ghost use mathlib.Core.Bool.{false};
+ghost use Prim.Native.Nat.{_*_, _+_, _/_, _%_, _≤_, _<_};
+ghost use lib.ListN.{length, take, getD};
+ghost use Rattle.rules.specs.Pairing.{expiryKey};
+ghost use Rattle.walk.specs.Tags.{Tagged, seriesAt};
+ghost use Rattle.pairing.specs.Second.{Moved, secondTag};
+
+// The key of the second walk, from the tag of the first.
+fn second_key(tag: u64) -> u64
+    requires { ⌜ tag < 40000000000000000 ⌝ }
+    ensures { λ r. ⌜ (r ≡ expiryKey (seriesAt false (tag / 2))) × (r < 20000000000000000) ⌝ }
+{
+    let key = tag / 2;
+    let kind = key / 10000000000000000;
+    let expiry = key / 100000000 % 100000000;
+    let low = key % 100000000;
+    if kind == 1 {
+        return (100000000 + (99999999 - low)) * 100000000 + (99999999 - expiry);
+    }
+    low * 100000000 + (99999999 - expiry)
+}
+
+// The tags in a sequence of places: the key of the second walk, and the side that the leg had.
+fn second_tags(places: &[u64; 16], tags: &[u64; 16], n: usize) -> [u64; 16]
+    requires { ⌜ (length (now places) ≡ 16) × (length (now tags) ≡ 16) × (n ≤ 16) ⌝ }
+    ensures { λ r. ⌜ Moved (now (places .entry)) n r (λ p. secondTag p (getD (now (tags .entry)) (p % 16) 0)) ⌝ }
+{
+    let mut moved = [0u64; 16];
+    let mut i = 0;
+    while i < n {
+        let place = places[i];
+        let at = (place % 16) as usize;
+        moved[i] = place / 16 * 2 + tags[at] % 2;
+        i += 1;
+    }
+    moved
+}
+
+// The open contracts in a sequence of places.
+fn second_left(places: &[u64; 16], left: &[u64; 16], n: usize) -> [u64; 16]
+    requires { ⌜ (length (now places) ≡ 16) × (length (now left) ≡ 16) × (n ≤ 16) ⌝ }
+    ensures { λ r. ⌜ Moved (now (places .entry)) n r (λ p. getD (now (left .entry)) (p % 16) 0) ⌝ }
+{
+    let mut moved = [0u64; 16];
+    let mut i = 0;
+    while i < n {
+        let place = places[i];
+        let at = (place % 16) as usize;
+        moved[i] = left[at];
+        i += 1;
+    }
+    moved
+}
