@@ -11,7 +11,7 @@ use lib.Dec.{eqb, ltb}
 use borrow.Author.Tests.{eqb-true, eqb-false, ltb-true, ltb-false}
 
 module _ {A : Type 0} (d : A) (f : A → ℕ) where
-  map-append : (xs ys : List A) → map f (xs ++ ys) ≡ map f xs ++ map f ys
+  pub map-append : (xs ys : List A) → map f (xs ++ ys) ≡ map f xs ++ map f ys
   map-append [] ys = refl
   map-append (x ∷ xs) ys = ap (λ (zs : List ℕ). f x ∷ zs) (map-append xs ys)
 

@@ -2,7 +2,14 @@
 use mathlib.Core.Path.{_≡_}
 use mathlib.Core.List.{List, map}
 use Prim.Native.Nat.{ℕ, _+_, _*_, _/_, _%_}
+use mathlib.Core.Bool.{false}
 use lib.ListN.{length, take}
+use Rattle.rules.specs.Pairing.{expiryKey}
+use Rattle.walk.specs.Tags.{seriesAt}
+
+-- the key of the second walk, of a tag of the first
+unfoldable pub keyAgain : ℕ → ℕ
+keyAgain tag = expiryKey (seriesAt false (tag / 2))
 
 -- a place's key of the second walk, with the side of a tag
 abbrev pub secondTag : ℕ → ℕ → ℕ

@@ -1,16 +1,16 @@
 // What the first walk left, as the second walk takes it.
 ghost use mathlib.Core.Path.{_≡_};
-ghost use mathlib.Core.Bool.{false};
+ghost use mathlib.Core.List.{map};
 ghost use Prim.Native.Nat.{_*_, _+_, _/_, _%_, _≤_, _<_};
 ghost use lib.ListN.{length, take, getD};
-ghost use Rattle.rules.specs.Pairing.{expiryKey};
-ghost use Rattle.walk.specs.Tags.{Tagged, seriesAt};
-ghost use Rattle.pairing.specs.Second.{Moved, secondTag};
+ghost use Rattle.sorting.specs.Keys.{sortKeys, tagged};
+ghost use Rattle.walk.specs.Tags.{Tagged};
+ghost use Rattle.pairing.specs.Second.{keyAgain, Moved, secondTag};
 
 // The key of the second walk, from the tag of the first.
 fn second_key(tag: u64) -> u64
     requires { ⌜ tag < 40000000000000000 ⌝ }
-    ensures { λ r. ⌜ (r ≡ expiryKey (seriesAt false (tag / 2))) × (r < 20000000000000000) ⌝ }
+    ensures { λ r. ⌜ (r ≡ keyAgain tag) × (r < 20000000000000000) ⌝ }
 {
     let key = tag / 2;
     let kind = key / 10000000000000000;
@@ -20,6 +20,27 @@ fn second_key(tag: u64) -> u64
         return (100000000 + (99999999 - low)) * 100000000 + (99999999 - expiry);
     }
     low * 100000000 + (99999999 - expiry)
+}
+
+// The legs' places in the second walk's sequence: in each number the key, and in its lowest four bits the place.
+fn places(tags: &[u64; 16], n: usize) -> [u64; 16]
+    requires { ⌜ Tagged (now tags) × (n ≤ 16) ⌝ }
+    ensures { λ r. ⌜ (take n r ≡ sortKeys (tagged 0 (map keyAgain (take n (now (tags .entry)))))) × (length r ≡ 16) ⌝ }
+{
+    let mut keys = [0u64; 16];
+    let mut i = 0;
+    while i < n {
+        keys[i] = second_key(tags[i]) * 16 + i as u64;
+        i += 1;
+    }
+    sorting::sort(&mut keys, n);
+    keys
+}
+
+fn second_tag(place: u64, tag: u64) -> u64
+    ensures { λ r. ⌜ r ≡ secondTag place tag ⌝ }
+{
+    place / 16 * 2 + tag % 2
 }
 
 // The tags in a sequence of places: the key of the second walk, and the side that the leg had.
@@ -32,7 +53,7 @@ fn second_tags(places: &[u64; 16], tags: &[u64; 16], n: usize) -> [u64; 16]
     while i < n {
         let place = places[i];
         let at = (place % 16) as usize;
-        moved[i] = place / 16 * 2 + tags[at] % 2;
+        moved[i] = second_tag(place, tags[at]);
         i += 1;
     }
     moved

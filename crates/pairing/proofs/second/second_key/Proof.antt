@@ -2,15 +2,16 @@ use borrow.Author.Needs.{needs}
 use native.Mathlib.Omega.{arith}
 use borrow.Author.Tests.{eq-eqb, ne-eqb}
 use Rattle.walk.specs.Tags.{seriesAt}
+use Rattle.pairing.specs.Second.{keyAgain}
 use Rattle.pairing.proofs.second.second_key.Statement.{statement}
 use Rattle.pairing.proofs.second.second_key.Tie as tie
 
 returns : tie.Need-returns
-unfolding seriesAt
+unfolding keyAgain seriesAt
 returns c = (rw (eq-eqb _ _ (c .if1 .taken)) (omega arith), omega arith)
 
 returns-2 : tie.Need-returns-2
-unfolding seriesAt
+unfolding keyAgain seriesAt
 returns-2 c = (rw (ne-eqb _ _ (c .if1 .left)) (omega arith), omega arith)
 
 pub second-key-spec : {M : Type 1} → statement M

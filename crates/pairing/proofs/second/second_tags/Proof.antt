@@ -18,12 +18,12 @@ abbrev μ-loop : tie.MeasureT-loop
 
 loop-again : tie.Need-loop-again Inv-loop μ-loop
 loop-again c =
-    let s = c .before .before .before .before in
+    let s = c .before .before .before .before .before in
     let a = s .args in
-    let l = c .before .before .before .loop in
+    let l = c .before .before .before .before .loop in
     let g : ℕ → ℕ = λ p. secondTag p (getD (a .tags .now) (p % 16) 0) in
-    let v = g (getD (a .places .now) (l .i) 0) in (
-      fill-turn 0 g (a .places .now) (l .moved) (l .i) v (omega (arith, s .pre)) (omega (arith, l .inv .1, s .pre)) refl (l .inv .0),
+    let v = c .second-tag .result in (
+      fill-turn 0 g (a .places .now) (l .moved) (l .i) v (omega (arith, s .pre)) (omega (arith, l .inv .1, s .pre)) (c .second-tag .ensures) (l .inv .0),
       length-set (l .moved) (l .i) v ∙ l .inv .1,
       omega arith,
     )
@@ -44,10 +44,9 @@ second-tags-spec =
     (λ c. (refl, refl, omega arith))
     (λ c. search needs)
     (λ c. search needs)
-    (λ c. ?)
     (λ c. search needs)
     (λ c. search needs)
-    (λ c. search needs)
+    (λ c κs. tt)
     (λ c. search needs)
     (λ c. search needs)
     (λ c. search needs)
