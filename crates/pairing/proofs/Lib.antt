@@ -1,3 +1,4 @@
 pub mod Keys
 pub mod Filling
 pub mod Alone
+pub mod Again

@@ -13,7 +13,7 @@ keyAgain tag = expiryKey (seriesAt false (tag / 2))
 
 -- a place's key of the second walk, with the side of a tag
 abbrev pub secondTag : ℕ → ℕ → ℕ
-secondTag place tag = place / 16 * 2 + tag % 2
+secondTag place tag = place / 16 % 20000000000000000 * 2 + tag % 2
 
 -- sixteen numbers, the first `n` of them by their places
 pub record Moved (places : List ℕ) (n : ℕ) (r : List ℕ) (f : ℕ → ℕ) : Type 0 where

@@ -23,7 +23,7 @@ fn second_key(tag: u64) -> u64
 }
 
 // The legs' places in the second walk's sequence: in each number the key, and in its lowest four bits the place.
-fn places(tags: &[u64; 16], n: usize) -> [u64; 16]
+pub fn places(tags: &[u64; 16], n: usize) -> [u64; 16]
     requires { ⌜ Tagged (now tags) × (n ≤ 16) ⌝ }
     ensures { λ r. ⌜ (take n r ≡ sortKeys (tagged 0 (map keyAgain (take n (now (tags .entry)))))) × (length r ≡ 16) ⌝ }
 {
@@ -37,16 +37,17 @@ fn places(tags: &[u64; 16], n: usize) -> [u64; 16]
     keys
 }
 
+// The remainder changes no key of a leg, and keeps every number in the bound of a tag.
 fn second_tag(place: u64, tag: u64) -> u64
-    ensures { λ r. ⌜ r ≡ secondTag place tag ⌝ }
+    ensures { λ r. ⌜ (r ≡ secondTag place tag) × (r < 40000000000000000) ⌝ }
 {
-    place / 16 * 2 + tag % 2
+    place / 16 % 20000000000000000 * 2 + tag % 2
 }
 
 // The tags in a sequence of places: the key of the second walk, and the side that the leg had.
-fn second_tags(places: &[u64; 16], tags: &[u64; 16], n: usize) -> [u64; 16]
+pub fn second_tags(places: &[u64; 16], tags: &[u64; 16], n: usize) -> [u64; 16]
     requires { ⌜ (length (now places) ≡ 16) × (length (now tags) ≡ 16) × (n ≤ 16) ⌝ }
-    ensures { λ r. ⌜ Moved (now (places .entry)) n r (λ p. secondTag p (getD (now (tags .entry)) (p % 16) 0)) ⌝ }
+    ensures { λ r. ⌜ Moved (now (places .entry)) n r (λ p. secondTag p (getD (now (tags .entry)) (p % 16) 0)) × Tagged r ⌝ }
 {
     let mut moved = [0u64; 16];
     let mut i = 0;
@@ -60,7 +61,7 @@ fn second_tags(places: &[u64; 16], tags: &[u64; 16], n: usize) -> [u64; 16]
 }
 
 // The open contracts in a sequence of places.
-fn second_left(places: &[u64; 16], left: &[u64; 16], n: usize) -> [u64; 16]
+pub fn second_left(places: &[u64; 16], left: &[u64; 16], n: usize) -> [u64; 16]
     requires { ⌜ (length (now places) ≡ 16) × (length (now left) ≡ 16) × (n ≤ 16) ⌝ }
     ensures { λ r. ⌜ Moved (now (places .entry)) n r (λ p. getD (now (left .entry)) (p % 16) 0) ⌝ }
 {
