@@ -61,13 +61,13 @@ leg-again root tag size t e =
     λ i. record { root = root; series = s i; bought = eqb (side i) 1; size = size }
 
 -- the legs' second keys are their tags'
-keys-are : (root : ℕ) (ts ns : List ℕ) → length ts ≡ length ns → map (λ l. expiryKey (l .series)) (zipWith (legAt root false) ts ns) ≡ map keyAgain ts
+pub keys-are : (root : ℕ) (ts ns : List ℕ) → length ts ≡ length ns → map (λ l. expiryKey (l .series)) (zipWith (legAt root false) ts ns) ≡ map keyAgain ts
 unfolding zipWith keyAgain
 keys-are root [] ns h = refl
 keys-are root (t ∷ ts) [] h = absurd (omega arith)
 keys-are root (t ∷ ts) (n ∷ ns) h = ap (λ (ks : List ℕ). expiryKey (seriesAt false (t / 2)) ∷ ks) (keys-are root ts ns (omega arith))
 
-zip-take : (f : ℕ → ℕ → Leg) (n : ℕ) (ts ns : List ℕ) → take n (zipWith f ts ns) ≡ zipWith f (take n ts) (take n ns)
+pub zip-take : (f : ℕ → ℕ → Leg) (n : ℕ) (ts ns : List ℕ) → take n (zipWith f ts ns) ≡ zipWith f (take n ts) (take n ns)
 unfolding zipWith
 zip-take f zero ts ns = refl
 zip-take f (suc n) [] ns = refl

@@ -2,3 +2,4 @@ pub mod Keys
 pub mod Filling
 pub mod Alone
 pub mod Again
+pub mod Both

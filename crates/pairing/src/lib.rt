@@ -1,4 +1,49 @@
 // Both walks of an order's legs: how many pairings they make, and the class that pairs and loners give.
+use crate::first::sizes;
+use crate::first::tags;
+use crate::second::places;
+use crate::second::second_left;
+use crate::second::second_tags;
+use crate::tally::class_of;
+use crate::tally::joined;
+use crate::tally::loners;
+use rules::Legs;
+use walk::walk;
+ghost use Rattle.pairing.specs.Legs.{Walkable, BothWalks};
+
 pub mod first;
 pub mod second;
 pub mod tally;
+
+pub struct Paired {
+    pub pairings: u64,
+    // 1 debit, 2 credit, 0 undetermined.
+    pub class: u64,
+}
+
+// The legs are listed latest walked first. The second walk takes what the first left of every leg, unless the class is European.
+pub fn both_walks(l: Legs, european: bool) -> Paired
+    requires { ⌜ Walkable l ⌝ }
+    ensures { λ r. ⌜ BothWalks european l (r .pairings) (r .class) ⌝ }
+{
+    let n = l.len;
+    let first = tags(l);
+    let mut left = sizes(l);
+    let a = walk(&first, &mut left, n, false);
+    if european {
+        let t = loners(a, &first, &left, n);
+        return Paired {
+            pairings: t.pairs,
+            class: class_of(t),
+        };
+    }
+    let again = places(&first, n);
+    let second = second_tags(&again, &first, n);
+    let mut rest = second_left(&again, &left, n);
+    let b = walk(&second, &mut rest, n, true);
+    let t = loners(joined(a, b), &second, &rest, n);
+    Paired {
+        pairings: t.pairs,
+        class: class_of(t),
+    }
+}
