@@ -1,3 +1,4 @@
+-- The needs are met by what is known of both walks.
 use Rattle.pairing.proofs.Both.{one-walk, two-walks, first-few, second-few}
 use borrow.Author.Needs.{needs}
 use Rattle.pairing.proofs.both_walks.Statement.{statement}
@@ -44,16 +45,16 @@ pub both-walks-spec : {M : Type 1} → statement M
 both-walks-spec =
     tie.close
     (tie.spec
-    (λ c κs. tt)
-    (λ c κs. tt)
-    (λ c κs. tt)
-    (λ c κs. tt)
+    (λ c κs. search needs)
+    (λ c κs. search needs)
+    (λ c κs. search needs)
+    (λ c κs. search needs)
     (λ c κs. search needs)
     returns
-    (λ c κs. tt)
     (λ c κs. search needs)
     (λ c κs. search needs)
-    (λ c κs. tt)
+    (λ c κs. search needs)
+    (λ c κs. search needs)
     joined-requires
     loners-requires-2
     (λ c κs. search needs)
