@@ -1,14 +1,16 @@
 -- A signed 64-bit number that is negative, or not, as the machine has it.
-use mathlib.Core.Path.{_≡_, refl, ap, _∙_}
+use mathlib.Core.Path.{_≡_, refl, sym, ap, _∙_}
 use mathlib.Core.Bool.{true, false}
-use Prim.Native.Nat.{ℕ, zero, suc, _<_, _^_}
+use Prim.Native.Nat.{ℕ, zero, suc, _+_, _<_, _^_}
 use native.Mathlib.Omega.{arith}
+use native.Mathlib.Numerals.{add-one}
 use lib.IntN.{ℤ, pos, negsuc, sucℤ, _+ℤ_, _-ℤ_, +ℤ-one, +ℤ-idl}
 use lib.Signed.{ltZ}
 use borrow.Author.Tests.{ltb-true}
 use mir.Syntax.{w64}
 use mir.Val.{SFits, toZ, ofZ}
 use mir.ValLaws.{toZ-ofZ}
+use Rattle.rules.specs.Order.{priceOf}
 
 -- what a local of 64 bits holds of `p`
 abbrev pub held : ℤ → ℤ
@@ -41,6 +43,10 @@ negative (negsuc n) f h =
     let g : SFits w64 (pos n) = record { sfits = f .sfits } in
     record { n = n; is = refl; small = f .sfits; up = rw e u; down = rw d g; size = ap held d ∙ toZ-ofZ w64 (pos n) g }
 
+pub price-received : {p : ℤ} (g : Negative p) → record { received = true; size = record { 0 = g .n + 1 } } ≡ priceOf p
+unfolding priceOf
+price-received g = rw add-one (sym (ap priceOf (g .is)))
+
 -- of one that is not
 pub record NotNegative (p : ℤ) : Type 0 where
   pub n : ℕ
@@ -54,3 +60,7 @@ not-negative (negsuc n) f h =
     let b : true ≡ false = rw (toZ-ofZ w64 (negsuc n) f) at h in
     let z : _≡_ {A = ℕ} 0 1 = cc in
     absurd (omega arith)
+
+pub price-paid : {p : ℤ} (g : NotNegative p) → record { received = false; size = record { 0 = g .n } } ≡ priceOf p
+unfolding priceOf
+price-paid g = sym (ap priceOf (g .is))

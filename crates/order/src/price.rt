@@ -11,15 +11,17 @@ pub fn price_of(price: i64) -> Price
 {
     if price < 0 {
         // The least integer has no opposite: one is added before the sign turns, and again after.
-        let size = -(price + 1);
+        let less = -(price + 1);
+        let size = (less as u64) + 1;
         return Price {
             received: true,
-            size: Mills((size as u64) + 1),
+            size: Mills(size),
         };
     }
+    let size = price as u64;
     Price {
         received: false,
-        size: Mills(price as u64),
+        size: Mills(size),
     }
 }
 

@@ -3,10 +3,9 @@ use mathlib.Core.Path.{_≡_, refl, ap, _∙_}
 use mathlib.Core.List.{_++_}
 use Prim.Native.Nat.{ℕ, _≤_, _-_}
 use native.Mathlib.Omega.{arith}
-use native.Mathlib.Nat.{sub-zero}
 use lib.ListN.{length, take, length-take, length-drop, length-set}
 use Rattle.rules.specs.Order.{rawLegs}
-use Rattle.order.proofs.Laws.{legsFrom, stored, all-stored}
+use Rattle.order.proofs.Laws.{legsFrom, none-stored, stored, all-stored}
 use borrow.Author.Needs.{needs}
 use Rattle.order.proofs.slices.order_of.Statement.{statement}
 use Rattle.order.proofs.slices.order_of.Tie as tie
@@ -23,7 +22,7 @@ abbrev μ-loop : tie.MeasureT-loop
 μ-loop symbols counts n order₀ done₀ order done = n - done
 
 loop-holds : tie.Need-loop-holds Inv-loop μ-loop
-loop-holds c = (rw sub-zero, omega arith, refl, refl, refl)
+loop-holds c = (none-stored _ _ _, omega arith, refl, refl, refl)
 
 raw-leg-requires : tie.Need-raw-leg-requires Inv-loop μ-loop
 raw-leg-requires c κs = simp (length-take, length-drop) (omega arith, omega arith)
