@@ -1,0 +1,3 @@
+// Order records: made of what the host hands in.
+pub mod price;
+pub mod slices;
