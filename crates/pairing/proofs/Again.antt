@@ -80,17 +80,17 @@ unfolding zipWith
 zip-maps f g h [] = refl
 zip-maps f g h (p ∷ ps) = ap (λ (ls : List Leg). f (g p) (h p) ∷ ls) (zip-maps f g h ps)
 
-same-map : (f g : ℕ → Leg) (ps : List ℕ) → All (λ p. f p ≡ g p) ps → map f ps ≡ map g ps
+pub same-map : (f g : ℕ → Leg) (ps : List ℕ) → All (λ p. f p ≡ g p) ps → map f ps ≡ map g ps
 same-map f g [] h = refl
 same-map f g (p ∷ ps) h = ap₂ _∷_ (h .0) (same-map f g ps (h .1))
 
 -- every tagged number's place is one of the list's
-places-small : (i n : ℕ) (ks : List ℕ) → i + length ks ≤ n → n ≤ 16 → All (λ t. t % 16 < n) (tagged i ks)
+pub places-small : (i n : ℕ) (ks : List ℕ) → i + length ks ≤ n → n ≤ 16 → All (λ t. t % 16 < n) (tagged i ks)
 unfolding tagged
 places-small i n [] h f = tt
 places-small i n (k ∷ ks) h f = (omega arith, places-small (suc i) n ks (omega arith) f)
 
-all-both : (P Q R : ℕ → Type 0) → ((p : ℕ) → P p → Q p → R p) → (ps : List ℕ) → All P ps → All Q ps → All R ps
+pub all-both : (P Q R : ℕ → Type 0) → ((p : ℕ) → P p → Q p → R p) → (ps : List ℕ) → All P ps → All Q ps → All R ps
 all-both P Q R f [] h k = tt
 all-both P Q R f (p ∷ ps) h k = (f p (h .0) (k .0), all-both P Q R f ps (h .1) (k .1))
 

@@ -1,23 +1,34 @@
--- An array that is filled from the front with a number of each element.
+-- An array that is filled from the front with one value for each element.
 use mathlib.Core.Path.{_≡_, refl, sym, ap, ap₂, _∙_}
 use mathlib.Core.List.{List, [], _∷_, _++_, map}
 use mathlib.Core.Bool.{Bool, true, false}
-use Prim.Native.Nat.{ℕ, zero, suc, _+_, _<_, _≤_}
+use Prim.Native.Nat.{ℕ, zero, suc, _+_, _*_, _<_, _≤_}
 use native.Mathlib.Omega.{arith}
 use native.Mathlib.Numerals.{add-one}
-use lib.ListN.{length, take, getD, set, replicate}
-use lib.Seq.{take-suc, take-suc-set, getD-set-same, getD-set-other, set-out}
+use lib.ListN.{length, take, getD, set, replicate, length-map}
+use lib.Seq.{length-take-le, take-suc, take-suc-set, getD-set-same, getD-set-other, set-out}
 use lib.Dec.{eqb, ltb}
+use Rattle.sorting.specs.Keys.{tagged}
+use Rattle.sorting.proofs.Laws.{tagged-last}
 use borrow.Author.Tests.{eqb-true, eqb-false, ltb-true, ltb-false}
 
-module _ {A : Type 0} (d : A) (f : A → ℕ) where
+module _ {A B : Type 0} (d : A) (f : A → B) where
   pub map-append : (xs ys : List A) → map f (xs ++ ys) ≡ map f xs ++ map f ys
   map-append [] ys = refl
-  map-append (x ∷ xs) ys = ap (λ (zs : List ℕ). f x ∷ zs) (map-append xs ys)
+  map-append (x ∷ xs) ys = ap (λ (zs : List B). f x ∷ zs) (map-append xs ys)
 
-  pub fill-turn : (xs : List A) (ns : List ℕ) (i v : ℕ) → i < length xs → i < length ns → v ≡ f (getD xs i d) → take i ns ≡ map f (take i xs)
+  pub fill-turn : (xs : List A) (ns : List B) (i : ℕ) (v : B) → i < length xs → i < length ns → v ≡ f (getD xs i d) → take i ns ≡ map f (take i xs)
       → take (i + 1) (set ns i v) ≡ map f (take (i + 1) xs)
   fill-turn xs ns i v h k e g = rw (add-one, take-suc-set ns i v k, take-suc xs i d h, map-append (take i xs) (getD xs i d ∷ []), g, e)
+
+-- each key with its place
+pub places-turn : {A : Type 0} (d : A) (key : A → ℕ) (xs : List A) (keys : List ℕ) (i v : ℕ) → i < length xs → i < length keys → v ≡ key (getD xs i d) * 16 + i → take i keys ≡ tagged 0 (map key (take i xs))
+    → take (i + 1) (set keys i v) ≡ tagged 0 (map key (take (i + 1) xs))
+places-turn d key xs keys i v h k e g =
+    let ks = map key (take i xs) in
+    let l : length ks ≡ i = length-map (take i xs) key ∙ length-take-le i xs (omega arith) in
+    let w : v ≡ key (getD xs i d) * 16 + (0 + length ks) = omega arith in
+    rw (add-one, take-suc-set keys i v k, take-suc xs i d h, map-append d key (take i xs) (getD xs i d ∷ []), g, tagged-last 0 ks (key (getD xs i d))) (ap (λ (x : ℕ). tagged 0 ks ++ (x ∷ [])) w)
 
 -- every number stays below a bound
 pub below-turn : (b : ℕ) (xs : List ℕ) (i v : ℕ) → v < b → ((k : ℕ) → getD xs k 0 < b) → (k : ℕ) → getD (set xs i v) k 0 < b

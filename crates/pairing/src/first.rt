@@ -11,7 +11,8 @@ ghost use Rattle.rules.specs.Pairing.{strikeKey};
 ghost use Rattle.walk.specs.Tags.{Tagged};
 ghost use Rattle.pairing.specs.Legs.{InRange, AllInRange, tagOf};
 
-fn strike_key(s: Series) -> u64
+// The key of the first walk's sequence.
+pub fn strike_key(s: Series) -> u64
     requires { ⌜ InRange s ⌝ }
     ensures { λ r. ⌜ (r ≡ strikeKey s) × (r < 20000000000000000) ⌝ }
 {
