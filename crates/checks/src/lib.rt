@@ -1,3 +1,2 @@
-// The limits of settings and market, and the reference price with its distance.
-pub mod limits;
+// The checks of an order against market and settings.
 pub mod reference;

@@ -10,7 +10,7 @@ use rules::Ticks;
 ghost use mathlib.Core.Path.{_≡_};
 ghost use mathlib.Core.Bool.{cond, not, _&&_, _||_};
 ghost use lib.Dec.{leb};
-ghost use Rattle.rules.specs.Market.{isMissing, isBroken, notInside, elsewhereReference, reference, acceptableTicks, tickAt};
+ghost use Rattle.rules.specs.Market.{isMissing, isBroken, notInside, reference, acceptableTicks, tickAt};
 
 fn pick_price(c: bool, x: Mills, y: Mills) -> Mills
     ensures { λ r. ⌜ r ≡ cond c x y ⌝ }
@@ -30,50 +30,47 @@ fn is_missing(x: Mills) -> bool
     x.0 == 0
 }
 
-// Both sides missing.
-fn is_unavailable(nbb: Mills, nbo: Mills) -> bool
-    ensures { λ r. ⌜ r ≡ isMissing nbb && isMissing nbo ⌝ }
+// Both sides missing; or both present, and the bid not below the offer.
+fn is_nbbo_broken(nbb: Mills, nbo: Mills) -> bool
+    ensures { λ r. ⌜ r ≡ (isMissing nbb && isMissing nbo || not (isMissing nbb) && not (isMissing nbo) && leb (nbo .0) (nbb .0)) ⌝ }
 {
-    both(is_missing(nbb), is_missing(nbo))
-}
-
-// Both sides present, and the bid not below the offer.
-fn is_locked_or_crossed(nbb: Mills, nbo: Mills) -> bool
-    ensures { λ r. ⌜ r ≡ not (isMissing nbb) && not (isMissing nbo) && leb (nbo .0) (nbb .0) ⌝ }
-{
-    both(
-        both(negated(is_missing(nbb)), negated(is_missing(nbo))),
-        nbo.0 <= nbb.0,
+    let no_bid = is_missing(nbb);
+    let no_offer = is_missing(nbo);
+    either(
+        both(no_bid, no_offer),
+        both(both(negated(no_bid), negated(no_offer)), nbo.0 <= nbb.0),
     )
 }
 
 pub fn is_broken(m: Market) -> bool
     ensures { λ r. ⌜ r ≡ isBroken m ⌝ }
 {
-    either(
-        is_unavailable(m.nbb, m.nbo),
-        is_locked_or_crossed(m.nbb, m.nbo),
-    )
+    is_nbbo_broken(m.nbb, m.nbo)
 }
 
-// A buy's price is not below the other, a sell's not above it.
+// Whether a buy's price is not below the other, or a sell's not above it.
 fn not_inside(bought: bool, x: Mills, y: Mills) -> bool
     ensures { λ r. ⌜ r ≡ notInside bought (x .0) (y .0) ⌝ }
 {
     choose(bought, y.0 <= x.0, x.0 <= y.0)
 }
 
-fn elsewhere_reference(bought: bool, m: Market) -> Mills
-    ensures { λ r. ⌜ r ≡ elsewhereReference bought m ⌝ }
+// Before the opening, with the option open elsewhere: `national` is the price that the order meets, `opposite` that of its own side.
+fn elsewhere_reference(
+    bought: bool,
+    broken: bool,
+    national: Mills,
+    opposite: Mills,
+    close: Mills,
+) -> Mills
+    ensures { λ r. ⌜ r ≡ cond (broken || isMissing national && notInside bought (close .0) (opposite .0)) close national ⌝ }
 {
-    let national = pick_price(bought, m.nbo, m.nbb);
-    let opposite = pick_price(negated(bought), m.nbo, m.nbb);
     pick_price(
         either(
-            is_broken(m),
-            both(is_missing(national), not_inside(bought, m.close, opposite)),
+            broken,
+            both(is_missing(national), not_inside(bought, close, opposite)),
         ),
-        m.close,
+        close,
         national,
     )
 }
@@ -81,13 +78,17 @@ fn elsewhere_reference(bought: bool, m: Market) -> Mills
 pub fn reference(bought: bool, m: Market) -> Mills
     ensures { λ r. ⌜ r ≡ reference bought m ⌝ }
 {
+    let broken = is_nbbo_broken(m.nbb, m.nbo);
+    let national = pick_price(bought, m.nbo, m.nbb);
+    let opposite = pick_price(negated(bought), m.nbo, m.nbb);
+    let elsewhere = elsewhere_reference(bought, broken, national, opposite, m.close);
     pick_price(
         m.phase == 0,
-        pick_price(m.elsewhere != 0, elsewhere_reference(bought, m), m.close),
+        pick_price(m.elsewhere != 0, elsewhere, m.close),
         pick_price(
-            both(m.phase == 1, is_broken(m)),
+            both(m.phase == 1, broken),
             pick_price(bought, m.offer, m.bid),
-            pick_price(bought, m.nbo, m.nbb),
+            national,
         ),
     )
 }

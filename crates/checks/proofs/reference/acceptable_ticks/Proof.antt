@@ -4,7 +4,7 @@ use Rattle.checks.proofs.reference.acceptable_ticks.Tie as tie
 
 returns : tie.Need-returns
 unfolding acceptableTicks
-returns c = cc
+returns c = rw (c .pick-ticks3 .ensures, c .before .pick-ticks2 .ensures, c .before .before .pick-ticks .ensures)
 
 pub acceptable-ticks-spec : {M : Type 1} → statement M
 acceptable-ticks-spec =

@@ -1,19 +1,13 @@
-use Rattle.rules.specs.Market.{elsewhereReference}
 use Rattle.checks.proofs.reference.elsewhere_reference.Statement.{statement}
 use Rattle.checks.proofs.reference.elsewhere_reference.Tie as tie
 
 returns : tie.Need-returns
-unfolding elsewhereReference
-returns c = cc
+returns c = rw (c .pick-price .ensures, c .before .either .ensures, c .before .before .both .ensures, c .before .before .before .before .is-missing .ensures, c .before .before .before .not-inside .ensures)
 
 pub elsewhere-reference-spec : {M : Type 1} → statement M
 elsewhere-reference-spec =
     tie.close
     (tie.spec
-    (λ c κs. tt)
-    (λ c κs. tt)
-    (λ c κs. tt)
-    (λ c κs. tt)
     (λ c κs. tt)
     (λ c κs. tt)
     (λ c κs. tt)

@@ -4,9 +4,7 @@ use Rattle.checks.proofs.reference.is_broken.Tie as tie
 
 returns : tie.Need-returns
 unfolding isBroken
-returns c = cc
+returns c = c .is-nbbo-broken .ensures
 
 pub is-broken-spec : {M : Type 1} → statement M
-is-broken-spec =
-    tie.close
-    (tie.spec (λ c κs. tt) (λ c κs. tt) (λ c κs. tt) returns)
+is-broken-spec = tie.close (tie.spec (λ c κs. tt) returns)

@@ -1,13 +1,13 @@
+use Rattle.limits.proofs.Laws.{joined, first}
 use Rattle.rules.specs.Market.{settingsHold}
-use Rattle.checks.proofs.Laws.{joined, first}
-use Rattle.checks.proofs.limits.settings_hold.Statement.{statement}
-use Rattle.checks.proofs.limits.settings_hold.Tie as tie
+use Rattle.limits.proofs.settings_hold.Statement.{statement}
+use Rattle.limits.proofs.settings_hold.Tie as tie
 
 returns : tie.Need-returns
 unfolding settingsHold
 returns c =
-    joined _ _ (c .both3 .ensures) (c .before .before .before .before .before .before .increments-hold .ensures)
-    (joined _ _ (c .before .both2 .ensures) (c .before .before .before .before .before .distances-hold .ensures)
+    joined _ _ (c .both3 .ensures) (c .before .before .before .before .before .before .three-within .ensures)
+    (joined _ _ (c .before .both2 .ensures) (c .before .before .before .before .before .four-within .ensures)
     (first _ _ (c .before .before .both .ensures) (c .before .before .before .before .within .ensures) (c .before .before .before .presets-hold .ensures)))
 
 pub settings-hold-spec : {M : Type 1} → statement M
