@@ -1,0 +1,2 @@
+// The checks of an order against market and settings.
+pub mod reference;

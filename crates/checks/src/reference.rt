@@ -1,0 +1,115 @@
+// The reference price of a single option, and the distance set for it.
+use choice::both;
+use choice::choose;
+use choice::either;
+use choice::negated;
+use rules::Market;
+use rules::Mills;
+use rules::Settings;
+use rules::Ticks;
+ghost use mathlib.Core.Path.{_≡_};
+ghost use mathlib.Core.Bool.{cond, not, _&&_, _||_};
+ghost use lib.Dec.{leb};
+ghost use Rattle.rules.specs.Market.{isMissing, isBroken, notInside, reference, acceptableTicks, tickAt};
+
+fn pick_price(c: bool, x: Mills, y: Mills) -> Mills
+    ensures { λ r. ⌜ r ≡ cond c x y ⌝ }
+{
+    if c { x } else { y }
+}
+
+fn pick_ticks(c: bool, x: Ticks, y: Ticks) -> Ticks
+    ensures { λ r. ⌜ r ≡ cond c x y ⌝ }
+{
+    if c { x } else { y }
+}
+
+fn is_missing(x: Mills) -> bool
+    ensures { λ r. ⌜ r ≡ isMissing x ⌝ }
+{
+    x.0 == 0
+}
+
+// Both sides missing; or both present, and the bid not below the offer.
+fn is_nbbo_broken(nbb: Mills, nbo: Mills) -> bool
+    ensures { λ r. ⌜ r ≡ (isMissing nbb && isMissing nbo || not (isMissing nbb) && not (isMissing nbo) && leb (nbo .0) (nbb .0)) ⌝ }
+{
+    let no_bid = is_missing(nbb);
+    let no_offer = is_missing(nbo);
+    either(
+        both(no_bid, no_offer),
+        both(both(negated(no_bid), negated(no_offer)), nbo.0 <= nbb.0),
+    )
+}
+
+pub fn is_broken(m: Market) -> bool
+    ensures { λ r. ⌜ r ≡ isBroken m ⌝ }
+{
+    is_nbbo_broken(m.nbb, m.nbo)
+}
+
+// Whether a buy's price is not below the other, or a sell's not above it.
+fn not_inside(bought: bool, x: Mills, y: Mills) -> bool
+    ensures { λ r. ⌜ r ≡ notInside bought (x .0) (y .0) ⌝ }
+{
+    choose(bought, y.0 <= x.0, x.0 <= y.0)
+}
+
+// Before the opening, with the option open elsewhere: `national` is the price that the order meets, `opposite` that of its own side.
+fn elsewhere_reference(
+    bought: bool,
+    broken: bool,
+    national: Mills,
+    opposite: Mills,
+    close: Mills,
+) -> Mills
+    ensures { λ r. ⌜ r ≡ cond (broken || isMissing national && notInside bought (close .0) (opposite .0)) close national ⌝ }
+{
+    pick_price(
+        either(
+            broken,
+            both(is_missing(national), not_inside(bought, close, opposite)),
+        ),
+        close,
+        national,
+    )
+}
+
+pub fn reference(bought: bool, m: Market) -> Mills
+    ensures { λ r. ⌜ r ≡ reference bought m ⌝ }
+{
+    let broken = is_nbbo_broken(m.nbb, m.nbo);
+    let national = pick_price(bought, m.nbo, m.nbb);
+    let opposite = pick_price(negated(bought), m.nbo, m.nbb);
+    let elsewhere = elsewhere_reference(bought, broken, national, opposite, m.close);
+    pick_price(
+        m.phase == 0,
+        pick_price(m.elsewhere != 0, elsewhere, m.close),
+        pick_price(
+            both(m.phase == 1, broken),
+            pick_price(bought, m.offer, m.bid),
+            national,
+        ),
+    )
+}
+
+// The acceptable tick distance of the reference's band.
+pub fn acceptable_ticks(st: Settings, r: Mills) -> Ticks
+    ensures { λ a. ⌜ a ≡ acceptableTicks st r ⌝ }
+{
+    pick_ticks(
+        r.0 < 1000,
+        st.atd0,
+        pick_ticks(
+            r.0 < 3000,
+            st.atd1,
+            pick_ticks(r.0 < 10000, st.atd2, st.atd3),
+        ),
+    )
+}
+
+pub fn tick_at(st: Settings, r: Mills) -> Mills
+    ensures { λ t. ⌜ t ≡ tickAt st r ⌝ }
+{
+    pick_price(r.0 < 3000, st.lowtick, st.hightick)
+}
