@@ -9,8 +9,8 @@ use rules::Settings;
 use rules::Ticks;
 ghost use mathlib.Core.Path.{_≡_};
 ghost use mathlib.Core.Bool.{cond, not, _&&_, _||_};
-ghost use lib.Dec.{leb};
-ghost use Rattle.rules.specs.Market.{isMissing, isBroken, notInside, reference, acceptableTicks, tickAt};
+ghost use lib.Dec.{eqb, ltb};
+ghost use Rattle.rules.specs.Market.{isMissing, isUnusable, notInside, reference, acceptableTicks, tickAt};
 
 fn pick_price(c: bool, x: Mills, y: Mills) -> Mills
     ensures { λ r. ⌜ r ≡ cond c x y ⌝ }
@@ -30,22 +30,22 @@ fn is_missing(x: Mills) -> bool
     x.0 == 0
 }
 
-// Both sides missing; or both present, and the bid not below the offer.
-fn is_nbbo_broken(nbb: Mills, nbo: Mills) -> bool
-    ensures { λ r. ⌜ r ≡ (isMissing nbb && isMissing nbo || not (isMissing nbb) && not (isMissing nbo) && leb (nbo .0) (nbb .0)) ⌝ }
+// Locked, crossed or unavailable.
+fn is_nbbo_unusable(nbb: Mills, nbo: Mills) -> bool
+    ensures { λ r. ⌜ r ≡ ((not (isMissing nbb) && not (isMissing nbo)) && eqb (nbb .0) (nbo .0) || (not (isMissing nbb) && not (isMissing nbo)) && ltb (nbo .0) (nbb .0) || isMissing nbb && isMissing nbo) ⌝ }
 {
     let no_bid = is_missing(nbb);
     let no_offer = is_missing(nbo);
-    either(
-        both(no_bid, no_offer),
-        both(both(negated(no_bid), negated(no_offer)), nbo.0 <= nbb.0),
-    )
+    let present = both(negated(no_bid), negated(no_offer));
+    let locked = both(present, nbb.0 == nbo.0);
+    let crossed = both(present, nbo.0 < nbb.0);
+    either(either(locked, crossed), both(no_bid, no_offer))
 }
 
-pub fn is_broken(m: Market) -> bool
-    ensures { λ r. ⌜ r ≡ isBroken m ⌝ }
+pub fn is_unusable(m: Market) -> bool
+    ensures { λ r. ⌜ r ≡ isUnusable m ⌝ }
 {
-    is_nbbo_broken(m.nbb, m.nbo)
+    is_nbbo_unusable(m.nbb, m.nbo)
 }
 
 // Whether a buy's price is not below the other, or a sell's not above it.
@@ -58,16 +58,16 @@ fn not_inside(bought: bool, x: Mills, y: Mills) -> bool
 // Before the opening, with the option open elsewhere: `national` is the price that the order meets, `opposite` that of its own side.
 fn elsewhere_reference(
     bought: bool,
-    broken: bool,
+    unusable: bool,
     national: Mills,
     opposite: Mills,
     close: Mills,
 ) -> Mills
-    ensures { λ r. ⌜ r ≡ cond (broken || isMissing national && notInside bought (close .0) (opposite .0)) close national ⌝ }
+    ensures { λ r. ⌜ r ≡ cond (unusable || isMissing national && notInside bought (close .0) (opposite .0)) close national ⌝ }
 {
     pick_price(
         either(
-            broken,
+            unusable,
             both(is_missing(national), not_inside(bought, close, opposite)),
         ),
         close,
@@ -78,15 +78,15 @@ fn elsewhere_reference(
 pub fn reference(bought: bool, m: Market) -> Mills
     ensures { λ r. ⌜ r ≡ reference bought m ⌝ }
 {
-    let broken = is_nbbo_broken(m.nbb, m.nbo);
+    let unusable = is_nbbo_unusable(m.nbb, m.nbo);
     let national = pick_price(bought, m.nbo, m.nbb);
     let opposite = pick_price(negated(bought), m.nbo, m.nbb);
-    let elsewhere = elsewhere_reference(bought, broken, national, opposite, m.close);
+    let elsewhere = elsewhere_reference(bought, unusable, national, opposite, m.close);
     pick_price(
         m.phase == 0,
         pick_price(m.elsewhere != 0, elsewhere, m.close),
         pick_price(
-            both(m.phase == 1, broken),
+            both(m.phase == 1, unusable),
             pick_price(bought, m.offer, m.bid),
             national,
         ),

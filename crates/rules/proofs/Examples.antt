@@ -8,12 +8,12 @@ use Rattle.rules.specs.Order.{word, rawLeg, rawLegs, priceOf, legOf, leg
 use Rattle.rules.specs.Pairing.{pairOf, matched, reach, walk, byStrike, byExpiry, pairing, isDebit}
 use Rattle.rules.specs.Class.{isVertical, isButterfly, isBox, shapeOf, isLeaning, allOf, pairClass, classOf}
 use Rattle.rules.specs.Checks.{putTest, callTest, simpleBuy, sizes, isBelow, sameSide, buyBuy, debitCredit, maximumOf, allowance, maximumValue}
-use Rattle.rules.specs.Market.{isBroken, elsewhereReference, reference, acceptableTicks, tickAt, limitDistance, isTooFar, tickDistance, settingsHold, marketHolds}
+use Rattle.rules.specs.Market.{isUnusable, elsewhereReference, reference, acceptableTicks, tickAt, limitDistance, isTooFar, tickDistance, settingsHold, marketHolds}
 use Rattle.rules.specs.Numbers.{firstOf, isBadPrice, refusal, rejection, judged, outcome, checkLegs, checkSlices}
 use Rattle.rules.specs.Examples.{Examples, Directions}
 
 computed : Examples × Directions
-unfolding all any somePair every lex insert sort value numeral areDigits distance areSpaces isRootTail isRoot leapDay daysIn dayExists inLimits symbolOf partsOf isSymbol word rawLeg rawLegs priceOf legOf legsOf gcdWithin gcd commonDivisor units pairOf matched reach walk byStrike byExpiry pairing isDebit isVertical isButterfly isBox shapeOf isLeaning allOf pairClass classOf putTest callTest simpleBuy sizes isBelow sameSide buyBuy debitCredit maximumOf allowance maximumValue isBroken elsewhereReference reference acceptableTicks tickAt limitDistance isTooFar tickDistance settingsHold marketHolds firstOf isBadPrice refusal rejection judged outcome checkLegs checkSlices
+unfolding all any somePair every lex insert sort value numeral areDigits distance areSpaces isRootTail isRoot leapDay daysIn dayExists inLimits symbolOf partsOf isSymbol word rawLeg rawLegs priceOf legOf legsOf gcdWithin gcd commonDivisor units pairOf matched reach walk byStrike byExpiry pairing isDebit isVertical isButterfly isBox shapeOf isLeaning allOf pairClass classOf putTest callTest simpleBuy sizes isBelow sameSide buyBuy debitCredit maximumOf allowance maximumValue isUnusable elsewhereReference reference acceptableTicks tickAt limitDistance isTooFar tickDistance settingsHold marketHolds firstOf isBadPrice refusal rejection judged outcome checkLegs checkSlices
 computed = (refl, refl)
 
 pub examples : Examples

@@ -19,11 +19,24 @@ use Rattle.rules.specs.Checks.{isLimit}
 abbrev pub isMissing : Mills → Bool
 isMissing x = eqb (x .0) 0
 
--- "NBBO unavailable: both sides missing; locked: equal and present; crossed: both present, NBB above NBO."
-unfoldable pub isBroken : Market → Bool
-isBroken m =
-    isMissing (m .nbb) && isMissing (m .nbo)
-    || not (isMissing (m .nbb)) && not (isMissing (m .nbo)) && leb (m .nbo .0) (m .nbb .0)
+-- "NBBO unavailable: both sides missing"
+abbrev pub isUnavailable : Market → Bool
+isUnavailable m = isMissing (m .nbb) && isMissing (m .nbo)
+
+abbrev pub isPresent : Market → Bool
+isPresent m = not (isMissing (m .nbb)) && not (isMissing (m .nbo))
+
+-- "locked: equal and present"
+abbrev pub isLocked : Market → Bool
+isLocked m = isPresent m && eqb (m .nbb .0) (m .nbo .0)
+
+-- "crossed: both present, NBB above NBO"
+abbrev pub isCrossed : Market → Bool
+isCrossed m = isPresent m && ltb (m .nbo .0) (m .nbb .0)
+
+-- "locked, crossed or unavailable"
+unfoldable pub isUnusable : Market → Bool
+isUnusable m = isLocked m || isCrossed m || isUnavailable m
 
 -- The prices that a buy (`bought` true) meets, or a sell: the national best and the own price of the other side.
 abbrev pub national : Bool → Market → Mills
@@ -39,14 +52,14 @@ notInside bought x y = cond bought (leb y x) (leb x y)
 -- "pre-opening and open elsewhere, the NBO, but the close if the NBBO is locked, crossed or unavailable, or the NBO alone is missing and the close is at least the NBB"
 unfoldable pub elsewhereReference : Bool → Market → Mills
 elsewhereReference bought m =
-    cond (isBroken m || isMissing (national bought m) && notInside bought (m .close .0) (national (not bought) m .0)) (m .close) (national bought m)
+    cond (isUnusable m || isMissing (national bought m) && notInside bought (m .close .0) (national (not bought) m .0)) (m .close) (national bought m)
 
 -- "Buy reference: [..]; pre-opening otherwise, the close. Open: NBO, or own offer if the NBBO is locked, crossed or unavailable. Halt: NBO."
 unfoldable pub reference : Bool → Market → Mills
 reference bought m =
     cond (eqb (m .phase) 0)
     (cond (isYes (m .elsewhere)) (elsewhereReference bought m) (m .close))
-    (cond (eqb (m .phase) 1 && isBroken m) (own bought m) (national bought m))
+    (cond (eqb (m .phase) 1 && isUnusable m) (own bought m) (national bought m))
 
 -- "the distance (ATD) set for the reference's band (below 1,000; to 2,999; to 9,999; from 10,000)"
 unfoldable pub acceptableTicks : Settings → Mills → Ticks

@@ -1,13 +1,13 @@
-use Rattle.rules.specs.Market.{isBroken, elsewhereReference, reference}
+use Rattle.rules.specs.Market.{isUnusable, elsewhereReference, reference}
 use Rattle.checks.proofs.reference.reference.Statement.{statement}
 use Rattle.checks.proofs.reference.reference.Tie as tie
 
 returns : tie.Need-returns
-unfolding reference elsewhereReference isBroken
+unfolding reference elsewhereReference isUnusable
 returns c =
     let s = c .before .before .before .before .before in
     let t = s .before .before .before in
-    rw (c .pick-price6 .ensures, c .before .pick-price5 .ensures, c .before .before .pick-price4 .ensures, c .before .before .before .both .ensures, s .pick-price3 .ensures, t .elsewhere-reference .ensures, t .before .pick-price2 .ensures, t .before .before .negated .ensures, t .before .before .before .pick-price .ensures, t .before .before .before .before .is-nbbo-broken .ensures)
+    rw (c .pick-price6 .ensures, c .before .pick-price5 .ensures, c .before .before .pick-price4 .ensures, c .before .before .before .both .ensures, s .pick-price3 .ensures, t .elsewhere-reference .ensures, t .before .pick-price2 .ensures, t .before .before .negated .ensures, t .before .before .before .pick-price .ensures, t .before .before .before .before .is-nbbo-unusable .ensures)
 
 pub reference-spec : {M : Type 1} → statement M
 reference-spec =
