@@ -10,7 +10,7 @@ use rules::Ticks;
 ghost use mathlib.Core.Path.{_≡_};
 ghost use mathlib.Core.Bool.{cond, not, _&&_, _||_};
 ghost use lib.Dec.{eqb, ltb};
-ghost use Rattle.rules.specs.Market.{isMissing, isUnusable, notInside, reference, acceptableTicks, tickAt};
+ghost use Rattle.rules.specs.Market.{isMissing, isUnusable, atOrPast, reference, acceptableTicks, tickAt};
 
 fn pick_price(c: bool, x: Mills, y: Mills) -> Mills
     ensures { λ r. ⌜ r ≡ cond c x y ⌝ }
@@ -50,7 +50,7 @@ pub fn is_unusable(m: Market) -> bool
 
 // Whether a buy's price is not below the other, or a sell's not above it.
 fn not_inside(bought: bool, x: Mills, y: Mills) -> bool
-    ensures { λ r. ⌜ r ≡ notInside bought (x .0) (y .0) ⌝ }
+    ensures { λ r. ⌜ r ≡ atOrPast bought (x .0) (y .0) ⌝ }
 {
     choose(bought, y.0 <= x.0, x.0 <= y.0)
 }
@@ -63,7 +63,7 @@ fn elsewhere_reference(
     opposite: Mills,
     close: Mills,
 ) -> Mills
-    ensures { λ r. ⌜ r ≡ cond (unusable || isMissing national && notInside bought (close .0) (opposite .0)) close national ⌝ }
+    ensures { λ r. ⌜ r ≡ cond (unusable || isMissing national && atOrPast bought (close .0) (opposite .0)) close national ⌝ }
 {
     pick_price(
         either(

@@ -10,7 +10,7 @@ use Rattle.rules.specs.declared.Leg.{Leg}
 use Rattle.rules.specs.declared.Legs.{Legs}
 use Rattle.rules.specs.Lists.{All}
 use Rattle.rules.specs.Order.{legsIn}
-use Rattle.rules.specs.Pairing.{Walked, walk, oneExpiry, oneStrike, expiryKey, byExpiry, pairing}
+use Rattle.rules.specs.Pairing.{Walked, walk, oneExpiry, oneStrike, expiryKey, byExpiry, bothWalks}
 use Rattle.rules.specs.Class.{pairClass}
 use Rattle.rules.proofs.Pairings.{pairing-fewer}
 use Rattle.sorting.specs.Keys.{sortKeys, tagged, EachTwo}
@@ -64,8 +64,8 @@ module _ (l : Legs) (w : Walkable l) (tags sizes left : List ℕ) (a : Tally)
   legs-few : length (legsIn l) ≤ 16
   legs-few = omega (arith, length-take n (l .legs), w .range .few)
 
-  once : pairing true (legsIn l) ≡ first
-  unfolding pairing
+  once : bothWalks true (legsIn l) ≡ first
+  unfolding bothWalks
   once = refl
 
   pub first-few : a .pairs ≤ 1000
@@ -98,8 +98,8 @@ module _ (l : Legs) (w : Walkable l) (tags sizes left : List ℕ) (a : Tally)
     abbrev both : Walked
     both = record { pairs = first .pairs ++ again .pairs; legs = again .legs }
 
-    twice : pairing false (legsIn l) ≡ both
-    unfolding pairing
+    twice : bothWalks false (legsIn l) ≡ both
+    unfolding bothWalks
     twice = refl
 
     second-legs : take n (legsFrom root true second rest) ≡ byExpiry (first .legs)

@@ -9,7 +9,7 @@ use Rattle.rules.specs.declared.Leg.{Leg}
 use Rattle.rules.specs.declared.Legs.{Legs}
 use Rattle.rules.specs.Lists.{All}
 use Rattle.rules.specs.Order.{legsIn}
-use Rattle.rules.specs.Pairing.{digit, strikeKey, expiryKey, pairing}
+use Rattle.rules.specs.Pairing.{digit, strikeKey, expiryKey, bothWalks}
 use Rattle.rules.specs.Class.{pairClass}
 use Rattle.sorting.specs.Keys.{EachTwo}
 use Rattle.walk.specs.Tags.{noLeg}
@@ -35,5 +35,5 @@ pub record Walkable (l : Legs) : Type 0 where
 
 -- the number of pairings, and the class by pairs and loners
 pub record BothWalks (european : Bool) (l : Legs) (count number : ℕ) : Type 0 where
-  pub pairings : count ≡ length (pairing european (legsIn l) .pairs)
-  pub class : number ≡ pairClass (pairing european (legsIn l))
+  pub pairings : count ≡ length (bothWalks european (legsIn l) .pairs)
+  pub class : number ≡ pairClass (bothWalks european (legsIn l))

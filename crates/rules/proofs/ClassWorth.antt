@@ -13,9 +13,9 @@ use Rattle.rules.specs.declared.Settings.{Settings}
 use Rattle.rules.specs.declared.Market.{Market}
 use Rattle.rules.specs.Lists.{All, sameBool, all}
 use Rattle.rules.specs.Order.{isYes}
-use Rattle.rules.specs.Pairing.{Pair, Walked, walk, oneExpiry, oneStrike, byExpiry, pairing, isDebit}
+use Rattle.rules.specs.Pairing.{Pair, Walked, walk, oneExpiry, oneStrike, byExpiry, bothWalks, isDebit}
 use Rattle.rules.specs.Class.{allOf}
-use Rattle.rules.specs.Fair.{Has, Fair, OneExpiry, OneStrike}
+use Rattle.rules.specs.Fair.{Has, Fair, ShareExpiry, ShareStrike}
 use Rattle.rules.proofs.Tests.{and-both}
 use Rattle.rules.proofs.Sorting.{all-perm, all-append, perm-sym, sort-is-perm}
 use Rattle.rules.proofs.Worth.{worth, pairsWorth, pairing-worth, walk-all}
@@ -80,14 +80,14 @@ module _ (st : Settings) (mk : Market) (legs : List Leg) (v : Series → ℕ) (f
   abbrev H : Series → Type 0
   H = Has legs
 
-  expiry-right : (s t : Series) → H s → H t → OneExpiry s t → Right v s t
+  expiry-right : (s t : Series) → H s → H t → ShareExpiry s t → Right v s t
   unfolding isDebit
   expiry-right s t hs ht e = go (s .call) refl (ltb (s .strike .0) (t .strike .0)) refl (ltb (t .strike .0) (s .strike .0)) refl
     where
       x : eqb (s .expiry) (t .expiry) ≡ true
       x = eq-eqb (s .expiry) (t .expiry) (e .1)
 
-      back : OneExpiry t s
+      back : ShareExpiry t s
       back = (sym (e .0), sym (e .1))
 
       go : (c : Bool) → s .call ≡ c → (l : Bool) → ltb (s .strike .0) (t .strike .0) ≡ l → (k : Bool) → ltb (t .strike .0) (s .strike .0) ≡ k → Right v s t
@@ -98,7 +98,7 @@ module _ (st : Settings) (mk : Market) (legs : List Leg) (v : Series → ℕ) (f
       go true f false g true j = right-of v s t false (rw (x, f, g)) (fair .callsFall t s ht hs back (sym (e .0) ∙ f) (ltb-true (t .strike .0) (s .strike .0) j))
       go false f false g true j = right-of v s t true (rw (x, f, j)) (fair .putsRise t s ht hs back (sym (e .0) ∙ f) (ltb-true (t .strike .0) (s .strike .0) j))
 
-  strike-right : isYes (st .european) ≡ false → (s t : Series) → H s → H t → OneStrike s t → Right v s t
+  strike-right : isYes (st .european) ≡ false → (s t : Series) → H s → H t → ShareStrike s t → Right v s t
   unfolding isDebit
   strike-right eu s t hs ht e = go (eqb (s .expiry) (t .expiry)) refl (ltb (t .expiry) (s .expiry)) refl
     where
@@ -112,8 +112,8 @@ module _ (st : Settings) (mk : Market) (legs : List Leg) (v : Series → ℕ) (f
     abbrev Rights : List Pair → Type 0
     Rights = All (λ m. Right v (m .buy) (m .sell))
 
-    pairing-right : (eu : Bool) → isYes (st .european) ≡ eu → Rights (pairing eu ls .pairs)
-    unfolding pairing byExpiry
+    pairing-right : (eu : Bool) → isYes (st .european) ≡ eu → Rights (bothWalks eu ls .pairs)
+    unfolding bothWalks byExpiry
     pairing-right eu e = go eu e
       where
         w : Walked
@@ -128,14 +128,14 @@ module _ (st : Settings) (mk : Market) (legs : List Leg) (v : Series → ℕ) (f
         two : isYes (st .european) ≡ false → Rights (walk oneStrike (byExpiry (w .legs)) .pairs)
         two f = walk-all oneStrike H (Right v) (λ s t hs ht x. let g = one-strike s t x in (strike-right f s t hs ht g, strike-right f t s ht hs (sym (g .0), sym (g .1)))) (byExpiry (w .legs)) left .0
 
-        go : (b : Bool) → isYes (st .european) ≡ b → Rights (pairing b ls .pairs)
+        go : (b : Bool) → isYes (st .european) ≡ b → Rights (bothWalks b ls .pairs)
         go true f = one .0
         go false f = all-append _ (w .pairs) (walk oneStrike (byExpiry (w .legs)) .pairs) (one .0) (two f)
 
-    pub class-worth : (side : Bool) → allOf side (pairing (isYes (st .european)) ls) ≡ true → worth v (not side) ls ≤ worth v side ls
+    pub class-worth : (side : Bool) → allOf side (bothWalks (isYes (st .european)) ls) ≡ true → worth v (not side) ls ≤ worth v side ls
     unfolding allOf
     class-worth side h =
         let eu = isYes (st .european) in
-        let p = pairing eu ls in
+        let p = bothWalks eu ls in
         let k = and-both (all (λ m. sameBool side (isDebit (m .buy) (m .sell))) (p .pairs)) _ h in
         omega (arith, pairing-worth v side eu ls, pairing-worth v (not side) eu ls, sided v side (p .pairs) (pairing-right eu refl) (k .0), loners v side (p .legs) (k .1))

@@ -16,7 +16,7 @@ use Rattle.rules.specs.declared.Market.{Market}
 use Rattle.rules.specs.Limits.{within}
 use Rattle.rules.specs.Lists.{any}
 use Rattle.rules.specs.Order.{isYes, rawLegs, recordLegs, legsOf, units}
-use Rattle.rules.specs.Pairing.{byStrike, pairing}
+use Rattle.rules.specs.Pairing.{byStrike, bothWalks}
 use Rattle.rules.specs.Class.{classOf}
 use Rattle.rules.specs.Numbers.{refusals, refusal, rejections, rejection, judged, refused, outcome, checkLegs, checkOrder, areWhole, checkSlices}
 use Rattle.rules.specs.Demand1.{Reader, Writer, orderNumbers, OrderAnswers, OrderCheck}
@@ -73,7 +73,7 @@ module _ (st : Settings) (m : Market) (t : Terms) where
 
       go : (k : ℕ) → InNumbers k → OrderAnswers (outcome k (judged st m t ls))
       go zero h =
-          let r = rejection-number (units ls) (classOf (units ls) (pairing (isYes (st .european)) ls)) in
+          let r = rejection-number (units ls) (classOf (units ls) (bothWalks (isYes (st .european)) ls)) in
           record { number = member _ orderNumbers (r .0); refusal = λ e. absurd (true≢false (sym e ∙ r .1)) }
       go (suc k) h = refused-answers (suc k) h
 

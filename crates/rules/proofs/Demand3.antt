@@ -19,11 +19,11 @@ use Rattle.rules.specs.declared.Market.{Market}
 use Rattle.rules.specs.Limits.{within}
 use Rattle.rules.specs.Lists.{All, Perm, any}
 use Rattle.rules.specs.Order.{isYes, Lent, lentLegs, recordLegs, priceOf, termsOf, legOf, legsOf, units, netWorth}
-use Rattle.rules.specs.Pairing.{byStrike, pairing}
+use Rattle.rules.specs.Pairing.{byStrike, bothWalks}
 use Rattle.rules.specs.Class.{classOf}
 use Rattle.rules.specs.Fair.{Has, Fair}
 use Rattle.rules.specs.Numbers.{firstOf, isBadCount, refusal, rejection, judged, refused, outcome, checkLegs, checkOrder}
-use Rattle.rules.specs.Demand3.{Alike, IsWhole, IsValid, NotRejected, arrival, legs, Arrivals, Demand3}
+use Rattle.rules.specs.Demand3.{Alike, IsWhole, IsValid, NotRejected, arrival, orderLegs, Arrivals, Demand3}
 use Rattle.rules.proofs.Tests.{and-both, or-neither, within-both}
 use Rattle.rules.proofs.Sorting.{all-perm, perm-sym, map-perm, length-perm}
 use Rattle.rules.proofs.Numbering.{first-of, none-applies}
@@ -93,7 +93,7 @@ module _ (st : Settings) (m : Market) (t : Terms) (ls : List Leg) (big : Sized l
   net-is = rw (worth-perm v true (units-perm (byStrike ls) ls perm), worth-perm v false (units-perm (byStrike ls) ls perm)) (worth-is v (units ls))
 
   abbrev class : ℕ
-  class = classOf us (pairing (isYes (st .european)) (byStrike ls))
+  class = classOf us (bothWalks (isYes (st .european)) (byStrike ls))
 
   debit-order : class ≡ 1 → worth v false us ≤ worth v true us
   debit-order e = class-ls st m t ls v fair true (byStrike ls) has full e
@@ -164,7 +164,7 @@ module _ (st : Settings) (m : Market) (t : Terms) (n : ℕ) (price : ℤ) (price
         sound = λ h v f e. let x = sound h v f e in (x, rw (check-perm st m t n p) at x);
       }
 
-whole-arrivals : (a : Alike) (xs ys : List Lent) → All IsWhole xs → Perm xs ys → Arrivals (a .settings) (a .market) (a .price) (legs xs) (arrival a xs) (arrival a ys)
+whole-arrivals : (a : Alike) (xs ys : List Lent) → All IsWhole xs → Perm xs ys → Arrivals (a .settings) (a .market) (a .price) (orderLegs xs) (arrival a xs) (arrival a ys)
 whole-arrivals a xs ys w p =
     let t = termsOf (a .price) (a .kind) (a .stop) (a .manual) (a .opening) in
     rw (

@@ -6,15 +6,15 @@ use borrow.Author.Tests.{eqb-true}
 use Rattle.rules.specs.declared.Series.{Series}
 use Rattle.rules.specs.Lists.{sameBool}
 use Rattle.rules.specs.Pairing.{oneExpiry, oneStrike}
-use Rattle.rules.specs.Fair.{OneExpiry, OneStrike}
+use Rattle.rules.specs.Fair.{ShareExpiry, ShareStrike}
 use Rattle.rules.proofs.Tests.{and-both, same-eq}
 
-pub one-expiry : (s t : Series) → oneExpiry s t ≡ true → OneExpiry s t
+pub one-expiry : (s t : Series) → oneExpiry s t ≡ true → ShareExpiry s t
 one-expiry s t e =
     let h = and-both (sameBool (s .call) (t .call)) (eqb (s .expiry) (t .expiry)) e in
     (same-eq (s .call) (t .call) (h .0), eqb-true (s .expiry) (t .expiry) (h .1))
 
-pub one-strike : (s t : Series) → oneStrike s t ≡ true → OneStrike s t
+pub one-strike : (s t : Series) → oneStrike s t ≡ true → ShareStrike s t
 one-strike s t e =
     let h = and-both (sameBool (s .call) (t .call)) (eqb (s .strike .0) (t .strike .0)) e in
     (same-eq (s .call) (t .call) (h .0), eqb-true (s .strike .0) (t .strike .0) (h .1))

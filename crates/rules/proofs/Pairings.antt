@@ -12,7 +12,7 @@ use borrow.Author.Tests.{leb-true, leb-false}
 use Rattle.rules.specs.declared.Series.{Series}
 use Rattle.rules.specs.declared.Leg.{Leg}
 use Rattle.rules.specs.Lists.{sameBool, lex, insert, sort}
-use Rattle.rules.specs.Pairing.{Walked, less, pairOf, matched, reach, walk, oneExpiry, oneStrike, byExpiry, pairing}
+use Rattle.rules.specs.Pairing.{Walked, less, pairOf, matched, reach, walk, oneExpiry, oneStrike, byExpiry, bothWalks}
 
 -- 1 for a leg with contracts open
 abbrev busy : ℕ → ℕ
@@ -111,8 +111,8 @@ running-length [] = omega arith
 running-length (x ∷ xs) = omega (arith, running-length xs, busy-one (x .size))
 
 -- the pairings of an order are at most its legs less one
-pub pairing-fewer : (european : Bool) (ls : List Leg) → length (pairing european ls .pairs) ≤ length ls - 1
-unfolding pairing byExpiry
+pub pairing-fewer : (european : Bool) (ls : List Leg) → length (bothWalks european ls .pairs) ≤ length ls - 1
+unfolding bothWalks byExpiry
 pairing-fewer european ls = go european
   where
     w : Walked
@@ -121,7 +121,7 @@ pairing-fewer european ls = go european
     u : Walked
     u = walk oneStrike (byExpiry (w .legs))
 
-    go : (eu : Bool) → length (pairing eu ls .pairs) ≤ length ls - 1
+    go : (eu : Bool) → length (bothWalks eu ls .pairs) ≤ length ls - 1
     go true = omega (arith, walk-fewer oneExpiry ls .1, running-length ls)
     go false =
         let one : Fewer (length (w .pairs)) (running (w .legs)) (running ls) = walk-fewer oneExpiry ls in

@@ -16,7 +16,7 @@ use Rattle.rules.specs.declared.Settings.{Settings}
 use Rattle.rules.specs.declared.Market.{Market}
 use Rattle.rules.specs.Lists.{sameBool, lex, insert, sort, all}
 use Rattle.rules.specs.Order.{isYes, gcd, commonDivisor, divided, units}
-use Rattle.rules.specs.Pairing.{Pair, Walked, Reached, less, pairOf, matched, reach, walk, wholeLeg, oneExpiry, oneStrike, byStrike, byExpiry, pairing, isDebit}
+use Rattle.rules.specs.Pairing.{Pair, Walked, Reached, less, pairOf, matched, reach, walk, wholeLeg, oneExpiry, oneStrike, byStrike, byExpiry, bothWalks, isDebit}
 use Rattle.rules.specs.Class.{shapeOf, allOf, pairClass, classOf}
 use Rattle.rules.specs.Numbers.{judged}
 use Rattle.rules.proofs.Divisor.{gcd-zero, gcd-step}
@@ -135,8 +135,8 @@ module _ (k : ℕ) (above : 0 < k) where
   byExpiry-scaled ls = sort-scaled _ ls
 
   -- both walks of scaled legs make the scaled pairs and leave the scaled legs
-  pub pairing-scaled : (european : Bool) (ls : List Leg) → pairing european (map (scaled k) ls) ≡ scaledWalk k (pairing european ls)
-  unfolding pairing
+  pub pairing-scaled : (european : Bool) (ls : List Leg) → bothWalks european (map (scaled k) ls) ≡ scaledWalk k (bothWalks european ls)
+  unfolding bothWalks
   pairing-scaled true ls = walk-scaled oneExpiry ls
   pairing-scaled false ls =
       let w = walk oneExpiry ls in
@@ -146,8 +146,8 @@ module _ (k : ℕ) (above : 0 < k) where
 
   -- scaled legs have as many pairings
   pub pairings-scaled : (european : Bool) (ls : List Leg)
-      → length (pairing european (map (scaled k) ls) .pairs) ≡ length (pairing european ls .pairs)
-  pairings-scaled european ls = rw (pairing-scaled european ls) (length-map (pairing european ls .pairs) (scaledPair k))
+      → length (bothWalks european (map (scaled k) ls) .pairs) ≡ length (bothWalks european ls .pairs)
+  pairings-scaled european ls = rw (pairing-scaled european ls) (length-map (bothWalks european ls .pairs) (scaledPair k))
 
   -- divisors and unit counts
   mod-scaled : (a b : ℕ) → k * a % (k * b) ≡ k * (a % b)
@@ -217,8 +217,8 @@ module _ (k : ℕ) (above : 0 < k) where
 
   -- scaled legs have the same class
   pub class-scaled : (european : Bool) (ls : List Leg)
-      → classOf (units (map (scaled k) ls)) (pairing european (map (scaled k) ls)) ≡ classOf (units ls) (pairing european ls)
-  class-scaled european ls = rw (units-scaled ls, pairing-scaled european ls) (class-of-scaled (units ls) (pairing european ls))
+      → classOf (units (map (scaled k) ls)) (bothWalks european (map (scaled k) ls)) ≡ classOf (units ls) (bothWalks european ls)
+  class-scaled european ls = rw (units-scaled ls, pairing-scaled european ls) (class-of-scaled (units ls) (bothWalks european ls))
 
   -- scaled legs of a valid order get the same answer: number, class, shape and pairings
   pub judged-scaled : (st : Settings) (m : Market) (t : Terms) (ls : List Leg)

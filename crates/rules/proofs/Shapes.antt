@@ -13,8 +13,8 @@ use Rattle.rules.specs.declared.Leg.{Leg}
 use Rattle.rules.specs.declared.Settings.{Settings}
 use Rattle.rules.specs.declared.Market.{Market}
 use Rattle.rules.specs.Lists.{sameBool}
-use Rattle.rules.specs.Class.{strikeOf, isVertical, between, isButterfly, isLeaning, isBox}
-use Rattle.rules.specs.Fair.{Has, Fair, OneExpiry}
+use Rattle.rules.specs.Class.{strikeOf, isVertical, between, isButterfly, hasOwnClass, isBox}
+use Rattle.rules.specs.Fair.{Has, Fair, ShareExpiry}
 use Rattle.rules.proofs.Tests.{and-both, or-either, not-eq, opposite-eq, passed}
 use Rattle.rules.proofs.Worth.{worth}
 use Rattle.rules.proofs.Butterfly.{fly-calls, fly-puts}
@@ -36,10 +36,10 @@ module _ (st : Settings) (mk : Market) (legs : List Leg) (v : Series → ℕ) (f
   H = Has legs
 
   -- no further apart than the strikes
-  near : (s t : Series) → H s → H t → OneExpiry s t → v s ≤ v t + ((s .strike .0 - t .strike .0) + (t .strike .0 - s .strike .0))
+  near : (s t : Series) → H s → H t → ShareExpiry s t → v s ≤ v t + ((s .strike .0 - t .strike .0) + (t .strike .0 - s .strike .0))
   near s t hs ht e = go (s .call) refl (ltb (s .strike .0) (t .strike .0)) refl (ltb (t .strike .0) (s .strike .0)) refl
     where
-      back : OneExpiry t s
+      back : ShareExpiry t s
       back = (sym (e .0), sym (e .1))
 
       go : (c : Bool) → s .call ≡ c → (l : Bool) → ltb (s .strike .0) (t .strike .0) ≡ l → (k : Bool) → ltb (t .strike .0) (s .strike .0) ≡ k → v s ≤ v t + ((s .strike .0 - t .strike .0) + (t .strike .0 - s .strike .0))
@@ -50,12 +50,12 @@ module _ (st : Settings) (mk : Market) (legs : List Leg) (v : Series → ℕ) (f
       go c f false g false j = omega (arith, ap v (series-eq s t (e .0) (e .1) (omega (arith, ltb-false (s .strike .0) (t .strike .0) g, ltb-false (t .strike .0) (s .strike .0) j))))
 
   -- of three strikes a < m < b: the middle is not dearer than the mean
-  mean : (a m b : Series) → H a → H m → H b → OneExpiry a m → OneExpiry m b → a .strike .0 < m .strike .0 → m .strike .0 < b .strike .0
+  mean : (a m b : Series) → H a → H m → H b → ShareExpiry a m → ShareExpiry m b → a .strike .0 < m .strike .0 → m .strike .0 < b .strike .0
       → cond (m .call) (leb (a .strike .0 + b .strike .0) (2 * m .strike .0)) (leb (2 * m .strike .0) (a .strike .0 + b .strike .0)) ≡ true
       → 2 * v m ≤ v a + v b
   mean a m b ha hm hb e f am mb h = go (m .call) refl h
     where
-      ab : OneExpiry a b
+      ab : ShareExpiry a b
       ab = (e .0 ∙ f .0, e .1 ∙ f .1)
 
       go : (c : Bool) → m .call ≡ c → cond c (leb (a .strike .0 + b .strike .0) (2 * m .strike .0)) (leb (2 * m .strike .0) (a .strike .0 + b .strike .0)) ≡ true → 2 * v m ≤ v a + v b
@@ -63,7 +63,7 @@ module _ (st : Settings) (mk : Market) (legs : List Leg) (v : Series → ℕ) (f
       go false g k = fly-puts (a .strike .0) (m .strike .0) (b .strike .0) (v a) (v m) (v b) am mb (leb-true _ _ k) (fair .putsRise a b ha hb ab (e .0 ∙ g) (omega arith)) (fair .convex a m b ha hm hb e f am mb)
 
   -- and where it is the mean strike, the outer two are not dearer by more than the distance
-  top : (a m b : Series) → H a → H m → H b → OneExpiry a m → OneExpiry m b → a .strike .0 < m .strike .0 → m .strike .0 < b .strike .0
+  top : (a m b : Series) → H a → H m → H b → ShareExpiry a m → ShareExpiry m b → a .strike .0 < m .strike .0 → m .strike .0 < b .strike .0
       → 2 * m .strike .0 ≡ a .strike .0 + b .strike .0 → v a + v b ≤ 2 * v m + (m .strike .0 - a .strike .0)
   top a m b ha hm hb e f am mb h = go (m .call) refl
     where
@@ -113,8 +113,8 @@ module _ (st : Settings) (mk : Market) (legs : List Leg) (v : Series → ℕ) (f
       go false false = omega arith
 
   -- the outer two of a butterfly are worth at least the middle
-  fly-mean : (a m b : Leg) → H (a .series) → H (m .series) → H (b .series) → isLeaning a m b ≡ true → 2 * v (m .series) ≤ v (a .series) + v (b .series)
-  unfolding isLeaning isButterfly Between
+  fly-mean : (a m b : Leg) → H (a .series) → H (m .series) → H (b .series) → hasOwnClass a m b ≡ true → 2 * v (m .series) ≤ v (a .series) + v (b .series)
+  unfolding hasOwnClass isButterfly Between
   fly-mean a m b ha hm hb h =
       let f = and-both (isButterfly a m b) _ h in
       let k = passed _ (f .0) in
@@ -129,13 +129,13 @@ module _ (st : Settings) (mk : Market) (legs : List Leg) (v : Series → ℕ) (f
       B : ℕ
       B = b .series .strike .0
 
-      go : OneExpiry (a .series) (m .series) → OneExpiry (m .series) (b .series) → ((A < M) × (M < B)) ⊎ ((B < M) × (M < A))
+      go : ShareExpiry (a .series) (m .series) → ShareExpiry (m .series) (b .series) → ((A < M) × (M < B)) ⊎ ((B < M) × (M < A))
           → cond (m .series .call) (leb (A + B) (2 * M)) (leb (2 * M) (A + B)) ≡ true → 2 * v (m .series) ≤ v (a .series) + v (b .series)
       go e f (inl l) k = mean (a .series) (m .series) (b .series) ha hm hb e f (l .0) (l .1) k
       go e f (inr l) k = rw (add-comm (v (a .series)) (v (b .series))) (mean (b .series) (m .series) (a .series) hb hm ha (sym (f .0), sym (f .1)) (sym (e .0), sym (e .1)) (l .0) (l .1) (rw (add-comm B A) k))
 
-  pub fly-class : (side : Bool) (a m b : Leg) → H (a .series) → H (m .series) → H (b .series) → isLeaning a m b ≡ true → m .bought ≡ not side → worth v (not side) (a ∷ m ∷ b ∷ []) ≤ worth v side (a ∷ m ∷ b ∷ [])
-  unfolding isLeaning isButterfly
+  pub fly-class : (side : Bool) (a m b : Leg) → H (a .series) → H (m .series) → H (b .series) → hasOwnClass a m b ≡ true → m .bought ≡ not side → worth v (not side) (a ∷ m ∷ b ∷ []) ≤ worth v side (a ∷ m ∷ b ∷ [])
+  unfolding hasOwnClass isButterfly
   fly-class side a m b ha hm hb h e =
       let f = and-both (isButterfly a m b) _ h in
       let (h0, (h1, (h2, (h3, (h4, (am, z)))))) = passed _ (f .0) in
@@ -148,8 +148,8 @@ module _ (st : Settings) (mk : Market) (legs : List Leg) (v : Series → ℕ) (f
       go false true e k = absurd (true≢false e)
       go false false e k = k
 
-  true-ahead : (a m b : Leg) → isButterfly a m b ≡ true → 2 * m .series .strike .0 ≡ a .series .strike .0 + b .series .strike .0 → isLeaning a m b ≡ true
-  unfolding isLeaning
+  true-ahead : (a m b : Leg) → isButterfly a m b ≡ true → 2 * m .series .strike .0 ≡ a .series .strike .0 + b .series .strike .0 → hasOwnClass a m b ≡ true
+  unfolding hasOwnClass
   true-ahead a m b h t = rw h (go (m .series .call))
     where
       go : (c : Bool) → cond c (leb (a .series .strike .0 + b .series .strike .0) (2 * m .series .strike .0)) (leb (2 * m .series .strike .0) (a .series .strike .0 + b .series .strike .0)) ≡ true
@@ -175,7 +175,7 @@ module _ (st : Settings) (mk : Market) (legs : List Leg) (v : Series → ℕ) (f
       B : ℕ
       B = b .series .strike .0
 
-      go : OneExpiry (a .series) (m .series) → OneExpiry (m .series) (b .series) → ((A < M) × (M < B)) ⊎ ((B < M) × (M < A)) → v (a .series) + v (b .series) ≤ 2 * v (m .series) + (M - min A B)
+      go : ShareExpiry (a .series) (m .series) → ShareExpiry (m .series) (b .series) → ((A < M) × (M < B)) ⊎ ((B < M) × (M < A)) → v (a .series) + v (b .series) ≤ 2 * v (m .series) + (M - min A B)
       go e f (inl l) = omega (arith, top (a .series) (m .series) (b .series) ha hm hb e f (l .0) (l .1) t)
       go e f (inr l) = omega (arith, top (b .series) (m .series) (a .series) hb hm ha (sym (f .0), sym (f .1)) (sym (e .0), sym (e .1)) (l .0) (l .1) (omega arith))
 

@@ -19,9 +19,9 @@ use Rattle.rules.specs.declared.Settings.{Settings}
 use Rattle.rules.specs.declared.Market.{Market}
 use Rattle.rules.specs.Lists.{All, sameBool, all, every}
 use Rattle.rules.specs.Order.{isYes, isComplex, priceOf, gcd, gcdWithin, commonDivisor, units}
-use Rattle.rules.specs.Pairing.{Walked, pairing}
-use Rattle.rules.specs.Class.{isVertical, isButterfly, isTrue, isLeaning, isBox, shapeOf, allOf, pairClass, classOf}
-use Rattle.rules.specs.Checks.{isLimit, isPositive, isNegative, putTest, callTest, simpleBuy, sizes, isBelow, sameSide, buyBuy, debitCredit, maximumOf, allowance, hasMaximum, maximumValue}
+use Rattle.rules.specs.Pairing.{Walked, bothWalks}
+use Rattle.rules.specs.Class.{isVertical, isButterfly, isTrueButterfly, hasOwnClass, isBox, shapeOf, allOf, pairClass, classOf}
+use Rattle.rules.specs.Checks.{isLimit, isPositive, isNegative, putTest, callTest, simpleBuy, sizes, isBelow, sameSideBelow, buyBuy, debitCredit, maximumOf, allowance, hasMaximum, maximumValue}
 use Rattle.rules.specs.Fair.{Has, Fair}
 use Rattle.rules.proofs.Tests.{and-both, or-either, not-eq, passed}
 use Rattle.rules.proofs.Sorting.{all-map}
@@ -108,9 +108,9 @@ module _ (st : Settings) (mk : Market) (t : Terms) (legs : List Leg) (v : Series
   class-us side [] w h r e = r e
   class-us side (a ∷ []) w h r e = r e
   class-us side (a ∷ b ∷ []) w h r e = r e
-  class-us side (a ∷ m ∷ b ∷ []) w h r e = go (isLeaning a m b) refl e
+  class-us side (a ∷ m ∷ b ∷ []) w h r e = go (hasOwnClass a m b) refl e
     where
-      go : (k : Bool) → isLeaning a m b ≡ k → cond k (cond (m .bought) 2 1) (pairClass w) ≡ codeOf side → worth v (not side) (a ∷ m ∷ b ∷ []) ≤ worth v side (a ∷ m ∷ b ∷ [])
+      go : (k : Bool) → hasOwnClass a m b ≡ k → cond k (cond (m .bought) 2 1) (pairClass w) ≡ codeOf side → worth v (not side) (a ∷ m ∷ b ∷ []) ≤ worth v side (a ∷ m ∷ b ∷ [])
       go true f g = fly-class st mk legs v fair side a m b (h .0) (h .1 .0) (h .1 .1 .0) f (side-of (m .bought) side g)
       go false f g = r g
   class-us side (a ∷ b ∷ c ∷ d ∷ q) w h r e = r e
@@ -120,10 +120,10 @@ module _ (st : Settings) (mk : Market) (t : Terms) (legs : List Leg) (v : Series
   has-units ls h = all-map (λ l. Has legs (l .series)) _ ls h
 
   -- the class of an order bears on its worth
-  pub class-ls : (side : Bool) (ls : List Leg) → Hs ls → Sized ls → classOf (units ls) (pairing (isYes (st .european)) ls) ≡ codeOf side → worth v (not side) (units ls) ≤ worth v side (units ls)
+  pub class-ls : (side : Bool) (ls : List Leg) → Hs ls → Sized ls → classOf (units ls) (bothWalks (isYes (st .european)) ls) ≡ codeOf side → worth v (not side) (units ls) ≤ worth v side (units ls)
   class-ls side ls h z e =
-      class-us side (units ls) (pairing (isYes (st .european)) ls) (has-units ls h)
-      (λ f. units-order v (not side) side ls z (class-worth st mk legs v fair ls h side (pair-class side (pairing (isYes (st .european)) ls) f)))
+      class-us side (units ls) (bothWalks (isYes (st .european)) ls) (has-units ls h)
+      (λ f. units-order v (not side) side ls z (class-worth st mk legs v fair ls h side (pair-class side (bothWalks (isYes (st .european)) ls) f)))
       e
 
   abbrev B : List Leg → ℕ
@@ -192,15 +192,15 @@ module _ (st : Settings) (mk : Market) (t : Terms) (legs : List Leg) (v : Series
       go (inr f) = omega (arith, p .size, ltb-true (t .price .size .0) n f)
 
   pub sound22 : (us : List Leg) → Hs us → Priced us → buyBuy st t us ≡ true → ⊥
-  unfolding buyBuy sameSide
+  unfolding buyBuy sameSideBelow
   sound22 us h p e = go (or-either _ _ (passed _ e .1 .1 .0))
     where
-      side : (s : Bool) → sameSide st t us s ≡ true → ⊥
+      side : (s : Bool) → sameSideBelow st t us s ≡ true → ⊥
       side s f =
           let k = and-both (all (λ u. sameBool s (u .bought)) us) _ f in
           not-below s us (sizes us * st .increment .0) p (one-side v s us (k .0)) (increments s us h (k .0)) (k .1)
 
-      go : (sameSide st t us true ≡ true) ⊎ (sameSide st t us false ≡ true) → ⊥
+      go : (sameSideBelow st t us true ≡ true) ⊎ (sameSideBelow st t us false ≡ true) → ⊥
       go (inl f) = side true f
       go (inr f) = side false f
 

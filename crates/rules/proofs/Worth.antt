@@ -8,7 +8,7 @@ use native.Mathlib.Omega.{arith}
 use Rattle.rules.specs.declared.Series.{Series}
 use Rattle.rules.specs.declared.Leg.{Leg}
 use Rattle.rules.specs.Lists.{All, Perm, none, keep, swap, then, sameBool}
-use Rattle.rules.specs.Pairing.{Pair, Walked, Reached, pairOf, less, matched, reach, walk, oneExpiry, oneStrike, byExpiry, pairing}
+use Rattle.rules.specs.Pairing.{Pair, Walked, Reached, pairOf, less, matched, reach, walk, oneExpiry, oneStrike, byExpiry, bothWalks}
 use Rattle.rules.proofs.Tests.{and-both}
 use Rattle.rules.proofs.Sorting.{all-append, sort-is-perm}
 
@@ -93,8 +93,8 @@ module _ (v : Series → ℕ) (side : Bool) where
         omega (arith, walk-worth xs, reach-worth x (w .legs), pairs-append (w .pairs) (reach same x (w .legs) .pairs))
 
   -- and so is that of both walks
-  pub pairing-worth : (european : Bool) (ls : List Leg) → worth ls ≡ pairsWorth (pairing european ls .pairs) + worth (pairing european ls .legs)
-  unfolding pairing byExpiry
+  pub pairing-worth : (european : Bool) (ls : List Leg) → worth ls ≡ pairsWorth (bothWalks european ls .pairs) + worth (bothWalks european ls .legs)
+  unfolding bothWalks byExpiry
   pairing-worth european ls = go european
     where
       w : Walked
@@ -106,12 +106,12 @@ module _ (v : Series → ℕ) (side : Bool) where
       again : worth (byExpiry (w .legs)) ≡ worth (w .legs)
       again = worth-perm (sort-is-perm _ (w .legs))
 
-      go : (eu : Bool) → worth ls ≡ pairsWorth (pairing eu ls .pairs) + worth (pairing eu ls .legs)
+      go : (eu : Bool) → worth ls ≡ pairsWorth (bothWalks eu ls .pairs) + worth (bothWalks eu ls .legs)
       go true = walk-worth oneExpiry ls
       go false = omega (arith, walk-worth oneExpiry ls, again, walk-worth oneStrike (byExpiry (w .legs)), pairs-append (w .pairs) (u .pairs))
 
 -- both walks keep the contracts of each side: the worth at one for each contract
-pub pairing-contracts : (side european : Bool) (ls : List Leg) → let contracts = worth (λ s. 1) side in let w = pairing european ls in
+pub pairing-contracts : (side european : Bool) (ls : List Leg) → let contracts = worth (λ s. 1) side in let w = bothWalks european ls in
     contracts ls ≡ pairsWorth (λ s. 1) side (w .pairs) + contracts (w .legs)
 pairing-contracts side european ls = pairing-worth (λ s. 1) side european ls
 

@@ -14,8 +14,11 @@ use Rattle.rules.specs.Lists.{sameBool, all, every}
 use Rattle.rules.specs.Order.{isYes, isSimple, isComplex}
 use Rattle.rules.specs.Class.{strikeOf, shapeOf}
 
+abbrev pub isMarket : Terms → Bool
+isMarket t = isYes (t .kind)
+
 abbrev pub isLimit : Terms → Bool
-isLimit t = not (isYes (t .kind))
+isLimit t = not (isMarket t)
 
 abbrev pub isPositive : Price → Bool
 isPositive p = not (p .received) && ltb 0 (p .size .0)
@@ -40,7 +43,7 @@ callTest st m s paid =
 
 -- "20 and 21 skip market orders in the opening process."
 abbrev pub isSkipped : Terms → Bool
-isSkipped t = isYes (t .kind) && isYes (t .opening)
+isSkipped t = isMarket t && isYes (t .opening)
 
 -- a simple buy that 20 and 21 do not skip, whose series and price pass the test
 unfoldable pub simpleBuy : (Series → Mills → Bool) → Terms → List Leg → Bool
@@ -60,11 +63,11 @@ sizes (l ∷ ls) = l .size + sizes ls
 unfoldable pub isBelow : Bool → Price → ℕ → Bool
 isBelow bought p n = cond bought (isNegative p) (isPositive p) || ltb (p .size .0) n
 
-unfoldable pub sameSide : Settings → Terms → List Leg → Bool → Bool
-sameSide st t us side = all (λ u. sameBool side (u .bought)) us && isBelow side (t .price) (sizes us * st .increment .0)
+unfoldable pub sameSideBelow : Settings → Terms → List Leg → Bool → Bool
+sameSideBelow st t us side = all (λ u. sameBool side (u .bought)) us && isBelow side (t .price) (sizes us * st .increment .0)
 
 unfoldable pub buyBuy : Settings → Terms → List Leg → Bool
-buyBuy st t us = every (isComplex us ∷ isLimit t ∷ (sameSide st t us true || sameSide st t us false) ∷ [])
+buyBuy st t us = every (isComplex us ∷ isLimit t ∷ (sameSideBelow st t us true || sameSideBelow st t us false) ∷ [])
 
 -- "23 debit/credit: complex limit order, a debit with negative price or a credit with positive; complex market order, only a credit with positive price."
 unfoldable pub debitCredit : Terms → List Leg → ℕ → Bool

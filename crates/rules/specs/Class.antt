@@ -38,8 +38,8 @@ isButterfly a m b =
     ∷ [])
 
 -- "true (2) if twice the middle equals the sum of the outer strikes, else skewed (3)"
-abbrev pub isTrue : Leg → Leg → Leg → Bool
-isTrue a m b = eqb (2 * strikeOf m) (strikeOf a + strikeOf b)
+abbrev pub isTrueButterfly : Leg → Leg → Leg → Bool
+isTrueButterfly a m b = eqb (2 * strikeOf m) (strikeOf a + strikeOf b)
 
 -- "Box (4): one expiry, two strikes, a call and a put at each, all unit counts 1 or -1, the calls opposite, and at each strike call and put opposite."
 -- `p` and `c` are the put and the call of the lower strike, `q` and `d` those of the higher.
@@ -68,13 +68,13 @@ unfoldable pub shapeOf : List Leg → ℕ
 shapeOf [] = 0
 shapeOf (a ∷ []) = 0
 shapeOf (a ∷ b ∷ []) = cond (isVertical a b) 1 0
-shapeOf (a ∷ m ∷ b ∷ []) = cond (isButterfly a m b) (cond (isTrue a m b) 2 3) 0
+shapeOf (a ∷ m ∷ b ∷ []) = cond (isButterfly a m b) (cond (isTrueButterfly a m b) 2 3) 0
 shapeOf (p ∷ q ∷ d ∷ c ∷ []) = cond (isBox p q d c) 4 0
 shapeOf (a ∷ b ∷ c ∷ d ∷ e ∷ r) = 0
 
 -- "A call butterfly with twice the middle at least the sum of the outer strikes, or a put butterfly with at most"
-unfoldable pub isLeaning : Leg → Leg → Leg → Bool
-isLeaning a m b =
+unfoldable pub hasOwnClass : Leg → Leg → Leg → Bool
+hasOwnClass a m b =
     isButterfly a m b
     && cond (m .series .call) (leb (strikeOf a + strikeOf b) (2 * strikeOf m)) (leb (2 * strikeOf m) (strikeOf a + strikeOf b))
 
@@ -92,5 +92,5 @@ unfoldable pub classOf : List Leg → Walked → ℕ
 classOf [] w = pairClass w
 classOf (a ∷ []) w = pairClass w
 classOf (a ∷ b ∷ []) w = pairClass w
-classOf (a ∷ m ∷ b ∷ []) w = cond (isLeaning a m b) (cond (m .bought) 2 1) (pairClass w)
+classOf (a ∷ m ∷ b ∷ []) w = cond (hasOwnClass a m b) (cond (m .bought) 2 1) (pairClass w)
 classOf (a ∷ b ∷ c ∷ d ∷ r) w = pairClass w

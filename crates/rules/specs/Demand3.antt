@@ -44,8 +44,8 @@ abbrev pub IsValid : OrderAnswer → Type 0
 IsValid r = within 1 12 (r .number) ≡ false
 
 -- the legs of the order, as read
-abbrev pub legs : List Lent → List Leg
-legs xs = legsOf (lentLegs xs)
+abbrev pub orderLegs : List Lent → List Leg
+orderLegs xs = legsOf (lentLegs xs)
 
 -- "is rejected by a check if it gets that check's number": not by the put, call, buy-buy/sell-sell, debit/credit or maximum-value check
 abbrev pub NotRejected : OrderAnswer → Type 0
@@ -65,7 +65,7 @@ pub record Arrivals (st : Settings) (m : Market) (price : ℤ) (ls : List Leg) (
 -- "Whatever order arrives, refused ones included, and in whatever other sequence its legs come in a second arrival"
 pub record Demand3 : Type 0 where
   -- any number of whole legs, damaged ones too
-  pub whole : (a : Alike) (xs ys : List Lent) → All IsWhole xs → Perm xs ys → Arrivals (a .settings) (a .market) (a .price) (legs xs) (arrival a xs) (arrival a ys)
+  pub whole : (a : Alike) (xs ys : List Lent) → All IsWhole xs → Perm xs ys → Arrivals (a .settings) (a .market) (a .price) (orderLegs xs) (arrival a xs) (arrival a ys)
   -- slices that do not divide into legs have no other sequence of legs: all of one length get one answer
   pub broken : (a : Alike) (s t c d : List ℕ) → length s ≡ length t → length c ≡ length d → areWhole s c ≡ false → answerTo a s c ≡ answerTo a t d
   -- and there are no other slices: those that divide are whole legs end to end

@@ -14,28 +14,28 @@ abbrev pub Has : List Leg → Series → Type 0
 Has legs s = List·Memᴰ s (map (λ l. l .series) legs)
 
 -- "For one type and expiry"
-abbrev pub OneExpiry : Series → Series → Type 0
-OneExpiry s t = (s .call ≡ t .call) × (s .expiry ≡ t .expiry)
+abbrev pub ShareExpiry : Series → Series → Type 0
+ShareExpiry s t = (s .call ≡ t .call) × (s .expiry ≡ t .expiry)
 
 -- "at the same type and strike"
-abbrev pub OneStrike : Series → Series → Type 0
-OneStrike s t = (s .call ≡ t .call) × (s .strike .0 ≡ t .strike .0)
+abbrev pub ShareStrike : Series → Series → Type 0
+ShareStrike s t = (s .call ≡ t .call) × (s .strike .0 ≡ t .strike .0)
 
 -- A premium table, "A whole number of mills for each series", that is fair (document 01's term) for an order's legs.
 pub record Fair (st : Settings) (m : Market) (legs : List Leg) (premium : Series → ℕ) : Type 0 where
   -- "Each is at least one net increment."
   pub atLeast : (s : Series) → Has legs s → st .increment .0 ≤ premium s
   -- "calls do not rise with strike", "neither moves more than the strike does"
-  pub callsFall : (s t : Series) → Has legs s → Has legs t → OneExpiry s t → s .call ≡ true → s .strike .0 < t .strike .0 → premium t ≤ premium s
-  pub callsMove : (s t : Series) → Has legs s → Has legs t → OneExpiry s t → s .call ≡ true → s .strike .0 < t .strike .0 → premium s ≤ premium t + (t .strike .0 - s .strike .0)
+  pub callsFall : (s t : Series) → Has legs s → Has legs t → ShareExpiry s t → s .call ≡ true → s .strike .0 < t .strike .0 → premium t ≤ premium s
+  pub callsMove : (s t : Series) → Has legs s → Has legs t → ShareExpiry s t → s .call ≡ true → s .strike .0 < t .strike .0 → premium s ≤ premium t + (t .strike .0 - s .strike .0)
   -- "puts do not fall", "neither moves more than the strike does"
-  pub putsRise : (s t : Series) → Has legs s → Has legs t → OneExpiry s t → s .call ≡ false → s .strike .0 < t .strike .0 → premium s ≤ premium t
-  pub putsMove : (s t : Series) → Has legs s → Has legs t → OneExpiry s t → s .call ≡ false → s .strike .0 < t .strike .0 → premium t ≤ premium s + (t .strike .0 - s .strike .0)
+  pub putsRise : (s t : Series) → Has legs s → Has legs t → ShareExpiry s t → s .call ≡ false → s .strike .0 < t .strike .0 → premium s ≤ premium t
+  pub putsMove : (s t : Series) → Has legs s → Has legs t → ShareExpiry s t → s .call ≡ false → s .strike .0 < t .strike .0 → premium t ≤ premium s + (t .strike .0 - s .strike .0)
   -- "for strikes a < m < b, (b-a) times the premium at m is at most (b-m) times that at a plus (m-a) times that at b"
-  pub convex : (a m b : Series) → Has legs a → Has legs m → Has legs b → OneExpiry a m → OneExpiry m b → a .strike .0 < m .strike .0 → m .strike .0 < b .strike .0
+  pub convex : (a m b : Series) → Has legs a → Has legs m → Has legs b → ShareExpiry a m → ShareExpiry m b → a .strike .0 < m .strike .0 → m .strike .0 < b .strike .0
       → (b .strike .0 - a .strike .0) * premium m ≤ (b .strike .0 - m .strike .0) * premium a + (m .strike .0 - a .strike .0) * premium b
   -- "Unless European index style, a farther expiry at the same type and strike is not cheaper."
-  pub farther : isYes (st .european) ≡ false → (s t : Series) → Has legs s → Has legs t → OneStrike s t → s .expiry < t .expiry → premium s ≤ premium t
+  pub farther : isYes (st .european) ≡ false → (s t : Series) → Has legs s → Has legs t → ShareStrike s t → s .expiry < t .expiry → premium s ≤ premium t
   -- "Every put is below its strike"
   pub putBelow : (s : Series) → Has legs s → s .call ≡ false → premium s < s .strike .0
   -- "every call is below the underlying's value where known"
@@ -43,11 +43,11 @@ pub record Fair (st : Settings) (m : Market) (legs : List Leg) (premium : Series
   -- "Call less put at one strike, where both are legs of one expiry, does not rise with strike and falls by no more than the strike rises."
   -- Call `c` and put `p` stand at the lower strike, call `d` and put `q` at the higher.
   pub parityFalls : (c p d q : Series) → Has legs c → Has legs p → Has legs d → Has legs q
-      → c .call ≡ true → p .call ≡ false → OneExpiry c d → OneExpiry p q → c .expiry ≡ p .expiry
+      → c .call ≡ true → p .call ≡ false → ShareExpiry c d → ShareExpiry p q → c .expiry ≡ p .expiry
       → c .strike .0 ≡ p .strike .0 → d .strike .0 ≡ q .strike .0 → c .strike .0 < d .strike .0
       → premium d + premium p ≤ premium c + premium q
   pub parityMoves : (c p d q : Series) → Has legs c → Has legs p → Has legs d → Has legs q
-      → c .call ≡ true → p .call ≡ false → OneExpiry c d → OneExpiry p q → c .expiry ≡ p .expiry
+      → c .call ≡ true → p .call ≡ false → ShareExpiry c d → ShareExpiry p q → c .expiry ≡ p .expiry
       → c .strike .0 ≡ p .strike .0 → d .strike .0 ≡ q .strike .0 → c .strike .0 < d .strike .0
       → premium c + premium q ≤ premium d + premium p + (d .strike .0 - c .strike .0)
 

@@ -46,13 +46,13 @@ abbrev pub own : Bool → Market → Mills
 own bought m = cond bought (m .offer) (m .bid)
 
 -- `x` is at least `y` for a buy; "A sell mirrors this"
-abbrev pub notInside : Bool → ℕ → ℕ → Bool
-notInside bought x y = cond bought (leb y x) (leb x y)
+abbrev pub atOrPast : Bool → ℕ → ℕ → Bool
+atOrPast bought x y = cond bought (leb y x) (leb x y)
 
 -- "pre-opening and open elsewhere, the NBO, but the close if the NBBO is locked, crossed or unavailable, or the NBO alone is missing and the close is at least the NBB"
 unfoldable pub elsewhereReference : Bool → Market → Mills
 elsewhereReference bought m =
-    cond (isUnusable m || isMissing (national bought m) && notInside bought (m .close .0) (national (not bought) m .0)) (m .close) (national bought m)
+    cond (isUnusable m || isMissing (national bought m) && atOrPast bought (m .close .0) (national (not bought) m .0)) (m .close) (national bought m)
 
 -- "Buy reference: [..]; pre-opening otherwise, the close. Open: NBO, or own offer if the NBBO is locked, crossed or unavailable. Halt: NBO."
 unfoldable pub reference : Bool → Market → Mills

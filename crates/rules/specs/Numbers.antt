@@ -16,7 +16,7 @@ use Rattle.rules.specs.Limits.{within}
 use Rattle.rules.specs.Lists.{sameBool, all, any, somePair}
 use Rattle.rules.specs.Symbol.{isSymbol}
 use Rattle.rules.specs.Order.{isYes, rawLegs, recordLegs, legsOf, units, isSimple}
-use Rattle.rules.specs.Pairing.{Walked, byStrike, pairing}
+use Rattle.rules.specs.Pairing.{Walked, byStrike, bothWalks}
 use Rattle.rules.specs.Class.{shapeOf, classOf}
 use Rattle.rules.specs.Checks.{isPositive, isNegative, putTest, callTest, simpleBuy, buyBuy, debitCredit, maximumValue}
 use Rattle.rules.specs.Market.{tickDistance, settingsHold, marketHolds}
@@ -82,7 +82,7 @@ rejection st m t us class = firstOf (rejections st m t us class)
 unfoldable pub judged : Settings → Market → Terms → List Leg → OrderAnswer
 judged st m t ls =
     let us = units ls in
-    let w = pairing (isYes (st .european)) ls in
+    let w = bothWalks (isYes (st .european)) ls in
     let class = classOf us w in
     record { number = rejection st m t us class; class = class; shape = shapeOf us; pairings = length (w .pairs) }
 

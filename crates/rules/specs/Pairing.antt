@@ -89,8 +89,8 @@ unfoldable pub byExpiry : List Leg → List Leg
 byExpiry = sort (λ l. expiryKey (l .series) ∷ wholeLeg l)
 
 -- Both walks of legs in the first walk's sequence; the second "Unless the class is European index style".
-unfoldable pub pairing : Bool → List Leg → Walked
-pairing european ls =
+unfoldable pub bothWalks : Bool → List Leg → Walked
+bothWalks european ls =
     let w = walk oneExpiry ls in
     let u = walk oneStrike (byExpiry (w .legs)) in
     cond european w (record { pairs = w .pairs ++ u .pairs; legs = u .legs })
