@@ -1,0 +1,116 @@
+// The tests of refusals 5 to 8: a count, two legs' series and roots, and the price.
+use choice::both;
+use choice::choose;
+use choice::either;
+use choice::negated;
+use choice::within;
+use rules::Leg;
+use rules::Legs;
+use rules::Order;
+use rules::Price;
+use rules::Terms;
+ghost use mathlib.Core.Path.{_≡_};
+ghost use mathlib.Core.Bool.{not};
+ghost use Prim.Native.Nat.{_≤_};
+ghost use Rattle.rules.specs.Limits.{within};
+ghost use Rattle.rules.specs.Lists.{any, somePair};
+ghost use Rattle.rules.specs.Order.{recordLegs, legsIn};
+ghost use Rattle.rules.specs.Checks.{isPositive, isNegative};
+ghost use Rattle.rules.specs.Numbers.{isBadCount, isSameSeries, isOtherRoot, isBadPrice};
+
+// A count's size, whichever its side.
+pub fn is_bad_count(size: u64) -> bool
+    ensures { λ r. ⌜ r ≡ not (within 1 10000 size) ⌝ }
+{
+    negated(within(1, 10000, size))
+}
+
+pub fn some_bad_count(o: Order) -> bool
+    requires { ⌜ o .len ≤ 16 ⌝ }
+    ensures { λ r. ⌜ r ≡ any isBadCount (recordLegs o) ⌝ }
+{
+    let n = o.len;
+    let mut r = false;
+    let mut i = 0;
+    while i < n {
+        r = either(r, is_bad_count(o.legs[i].size));
+        i += 1;
+    }
+    r
+}
+
+pub fn same_series(a: Leg, b: Leg) -> bool
+    ensures { λ r. ⌜ r ≡ isSameSeries a b ⌝ }
+{
+    let kind = choose(a.series.call, b.series.call, negated(b.series.call));
+    let dated = both(
+        both(a.root == b.root, kind),
+        a.series.expiry == b.series.expiry,
+    );
+    both(dated, a.series.strike.0 == b.series.strike.0)
+}
+
+// Every two legs are compared: those of one series may stand anywhere. The legs are read in place, since a copy of
+// them for each turn would cost more than the comparisons.
+pub fn some_series_twice(l: Legs) -> bool
+    requires { ⌜ l .len ≤ 16 ⌝ }
+    ensures { λ r. ⌜ r ≡ somePair isSameSeries (legsIn l) ⌝ }
+{
+    let n = l.len;
+    let mut r = false;
+    let mut i = 0;
+    while i < n {
+        let mut j = i + 1;
+        while j < n {
+            r = either(r, same_series(l.legs[i], l.legs[j]));
+            j += 1;
+        }
+        i += 1;
+    }
+    r
+}
+
+pub fn other_root(a: Leg, b: Leg) -> bool
+    ensures { λ r. ⌜ r ≡ isOtherRoot a b ⌝ }
+{
+    negated(a.root == b.root)
+}
+
+// Where two roots differ, one of them is not the first leg's: so one pass is enough.
+pub fn some_other_root(l: Legs) -> bool
+    requires { ⌜ l .len ≤ 16 ⌝ }
+    ensures { λ r. ⌜ r ≡ somePair isOtherRoot (legsIn l) ⌝ }
+{
+    let n = l.len;
+    let mut r = false;
+    let mut i = 1;
+    while i < n {
+        r = either(r, other_root(l.legs[0], l.legs[i]));
+        i += 1;
+    }
+    r
+}
+
+pub fn is_positive(p: Price) -> bool
+    ensures { λ r. ⌜ r ≡ isPositive p ⌝ }
+{
+    both(negated(p.received), 0 < p.size.0)
+}
+
+pub fn is_negative(p: Price) -> bool
+    ensures { λ r. ⌜ r ≡ isNegative p ⌝ }
+{
+    both(p.received, 0 < p.size.0)
+}
+
+// Of one leg only the first place counts, and of more legs no sign is asked.
+pub fn is_bad_price(t: Terms, l: Legs) -> bool
+    requires { ⌜ l .len ≤ 16 ⌝ }
+    ensures { λ r. ⌜ r ≡ isBadPrice t (legsIn l) ⌝ }
+{
+    let sign = choose(l.legs[0].bought, is_positive(t.price), is_negative(t.price));
+    either(
+        1000000000000 < t.price.size.0,
+        both(l.len == 1, negated(sign)),
+    )
+}
