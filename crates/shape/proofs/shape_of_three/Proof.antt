@@ -1,0 +1,12 @@
+use Rattle.rules.specs.Class.{shapeOf}
+use Rattle.shape.proofs.shape_of_three.Statement.{statement}
+use Rattle.shape.proofs.shape_of_three.Tie as tie
+
+returns : tie.Need-returns
+unfolding shapeOf
+returns c = cc
+
+pub shape-of-three-spec : {M : Type 1} → statement M
+shape-of-three-spec =
+    tie.close
+    (tie.spec (λ c κs. tt) (λ c κs. tt) (λ c κs. tt) (λ c κs. tt) returns)
