@@ -1,20 +1,24 @@
 -- The definitions as the code computes them.
 use mathlib.Core.Path.{_≡_, refl, sym, ap, _∙_}
 use mathlib.Core.List.{List, [], _∷_, _++_}
-use mathlib.Core.Bool.{Bool, true, false, cond, _&&_}
+use mathlib.Core.Bool.{Bool, true, false, cond, not, _&&_}
 use Prim.Native.Nat.{ℕ, zero, suc, _+_, _-_, _*_, _≤_, _<_, min, max}
 use native.Mathlib.Omega.{arith}
-use lib.Dec.{eqb, leb}
+use lib.Dec.{eqb, leb, ltb}
 use lib.ListN.{length, take, drop, getD}
 use lib.Seq.{drop-cons}
-use borrow.Author.Tests.{eqb-true, eqb-false, leb-true, leb-false, eq-eqb, ne-eqb, le-leb, lt-leb}
+use borrow.Author.Tests.{eqb-true, eqb-false, leb-true, leb-false, eq-eqb, ne-eqb, le-leb, lt-leb, le-ltb}
 use Rattle.rules.specs.declared.Leg.{Leg}
+use Rattle.rules.specs.declared.Legs.{Legs}
+use Rattle.rules.specs.declared.Series.{Series}
 use Rattle.rules.specs.Lists.{every}
-use Rattle.rules.specs.Pairing.{Walked}
-use Rattle.rules.specs.Class.{strikeOf, shapeOf, classOf, pairClass}
+use Rattle.rules.specs.Pairing.{Walked, oneExpiry}
+use Rattle.rules.specs.Order.{legsIn}
+use Rattle.rules.specs.Class.{strikeOf, isOf, opposite, isVertical, between, isButterfly, shapeOf, classOf, pairClass}
 use Rattle.rules.specs.Checks.{maximumOf}
+use Rattle.shape.specs.Box.{boxSeries, boxSides}
 
-pub every-append : (xs ys : List Bool) → every xs && every ys ≡ every (xs ++ ys)
+every-append : (xs ys : List Bool) → every xs && every ys ≡ every (xs ++ ys)
 unfolding every
 every-append [] ys = refl
 every-append (true ∷ xs) ys = every-append xs ys
@@ -39,28 +43,74 @@ every-four true true false d = refl
 every-four true true true false = refl
 every-four true true true true = refl
 
+pub vertical : (a b : Leg) {expiry sides r : Bool}
+    → expiry ≡ oneExpiry (a .series) (b .series)
+    → sides ≡ opposite a b
+    → r ≡ every (expiry ∷ isOf 1 a ∷ isOf 1 b ∷ sides ∷ [])
+    → r ≡ isVertical a b
+unfolding isVertical
+vertical a b e s r = rw (← e, ← s) r
+
+pub butterfly : (a m b : Leg) {first second left right middle x y r : Bool}
+    → first ≡ oneExpiry (a .series) (m .series)
+    → second ≡ oneExpiry (m .series) (b .series)
+    → left ≡ opposite a m
+    → right ≡ opposite m b
+    → middle ≡ between (strikeOf a) (strikeOf m) (strikeOf b)
+    → x ≡ every (first ∷ second ∷ isOf 1 a ∷ isOf 2 m ∷ [])
+    → y ≡ every (isOf 1 b ∷ left ∷ right ∷ middle ∷ [])
+    → r ≡ x && y
+    → r ≡ isButterfly a m b
+unfolding isButterfly
+butterfly a m b f s l k z x y r = rw (← f, ← s, ← l, ← k, ← z) (joined _ _ x y r)
+
+pub box-read : (p q d c : Series) {puts calls put x y r : Bool}
+    → puts ≡ oneExpiry p q
+    → calls ≡ oneExpiry c d
+    → put ≡ not (p .call)
+    → x ≡ every (puts ∷ calls ∷ eqb (c .expiry) (p .expiry) ∷ c .call ∷ [])
+    → y ≡ every (put ∷ eqb (c .strike .0) (p .strike .0) ∷ eqb (d .strike .0) (q .strike .0) ∷ ltb (c .strike .0) (d .strike .0) ∷ [])
+    → r ≡ x && y
+    → r ≡ every (boxSeries p q d c)
+unfolding boxSeries
+box-read p q d c f s k x y r = rw (← f, ← s, ← k) (joined _ _ x y r)
+
+pub sides-read : (p q d c : Leg) {calls lower higher x y r : Bool}
+    → calls ≡ opposite c d
+    → lower ≡ opposite c p
+    → higher ≡ opposite d q
+    → x ≡ every (isOf 1 p ∷ isOf 1 q ∷ isOf 1 c ∷ isOf 1 d ∷ [])
+    → y ≡ every (calls ∷ lower ∷ higher ∷ [])
+    → r ≡ x && y
+    → r ≡ every (boxSides p q d c)
+unfolding boxSides
+sides-read p q d c f s k x y r = rw (← f, ← s, ← k) (joined _ _ x y r)
+
 -- Twice the middle strike against the sum of the outer ones, by its distances from the lower and from the higher.
-module _ (a m b : ℕ) where
-  pub middle : eqb (m - min a b) (max a b - m) ≡ eqb (2 * m) (a + b)
+module _ (a m b : ℕ) {low high : ℕ} (l : low ≡ m - min a b) (h : high ≡ max a b - m) where
+  pub middle : eqb low high ≡ eqb (2 * m) (a + b)
   middle = go (eqb (2 * m) (a + b)) refl
     where
-      go : (t : Bool) → eqb (2 * m) (a + b) ≡ t → eqb (m - min a b) (max a b - m) ≡ t
-      go true h = let e = eqb-true (2 * m) (a + b) h in eq-eqb (m - min a b) (max a b - m) (omega arith)
-      go false h = ne-eqb (m - min a b) (max a b - m) (λ e. eqb-false (2 * m) (a + b) h (omega arith))
+      go : (t : Bool) → eqb (2 * m) (a + b) ≡ t → eqb low high ≡ t
+      go true e = let f = eqb-true (2 * m) (a + b) e in eq-eqb low high (omega arith)
+      go false e = ne-eqb low high (λ f. eqb-false (2 * m) (a + b) e (omega arith))
 
-  pub middle-above : leb (max a b - m) (m - min a b) ≡ leb (a + b) (2 * m)
-  middle-above = go (leb (a + b) (2 * m)) refl
+  above : leb high low ≡ leb (a + b) (2 * m)
+  above = go (leb (a + b) (2 * m)) refl
     where
-      go : (t : Bool) → leb (a + b) (2 * m) ≡ t → leb (max a b - m) (m - min a b) ≡ t
-      go true h = let e = leb-true (a + b) (2 * m) h in le-leb (max a b - m) (m - min a b) (omega arith)
-      go false h = let e = leb-false (a + b) (2 * m) h in lt-leb (max a b - m) (m - min a b) (omega arith)
+      go : (t : Bool) → leb (a + b) (2 * m) ≡ t → leb high low ≡ t
+      go true e = let f = leb-true (a + b) (2 * m) e in le-leb high low (omega arith)
+      go false e = let f = leb-false (a + b) (2 * m) e in lt-leb high low (omega arith)
 
-  pub middle-below : leb (m - min a b) (max a b - m) ≡ leb (2 * m) (a + b)
-  middle-below = go (leb (2 * m) (a + b)) refl
+  below : leb low high ≡ leb (2 * m) (a + b)
+  below = go (leb (2 * m) (a + b)) refl
     where
-      go : (t : Bool) → leb (2 * m) (a + b) ≡ t → leb (m - min a b) (max a b - m) ≡ t
-      go true h = let e = leb-true (2 * m) (a + b) h in le-leb (m - min a b) (max a b - m) (omega arith)
-      go false h = let e = leb-false (2 * m) (a + b) h in lt-leb (m - min a b) (max a b - m) (omega arith)
+      go : (t : Bool) → leb (2 * m) (a + b) ≡ t → leb low high ≡ t
+      go true e = let f = leb-true (2 * m) (a + b) e in le-leb low high (omega arith)
+      go false e = let f = leb-false (2 * m) (a + b) e in lt-leb low high (omega arith)
+
+  pub leaning : (call : Bool) {r : Bool} → r ≡ cond call (leb high low) (leb low high) → r ≡ cond call (leb (a + b) (2 * m)) (leb (2 * m) (a + b))
+  leaning call e = rw (← above, ← below) e
 
 abbrev pub noLeg : Leg
 noLeg = record { root = 0; series = record { call = false; expiry = 0; strike = record { 0 = 0 } }; bought = false; size = 0 }
@@ -87,46 +137,55 @@ module _ (a b c d e : Leg) (r : List Leg) where
   class-pairs (suc (suc (suc zero))) w h = absurd (h refl)
   class-pairs (suc (suc (suc (suc n)))) w h = refl
 
-  maximum-none : (n : ℕ) → n < 2 → 0 ≡ maximumOf (take n these)
+  maximum-these : (n : ℕ) {x y z p q r : ℕ}
+      → x ≡ (strikeOf a - strikeOf b) + (strikeOf b - strikeOf a)
+      → y ≡ strikeOf b - min (strikeOf a) (strikeOf c)
+      → z ≡ strikeOf c - strikeOf d
+      → p ≡ cond (eqb n 3) y z
+      → q ≡ cond (eqb n 2) x p
+      → r ≡ cond (ltb n 2) 0 q
+      → r ≡ maximumOf (take n these)
   unfolding maximumOf
-  maximum-none zero h = refl
-  maximum-none (suc zero) h = refl
-  maximum-none (suc (suc n)) h = omega arith
+  maximum-these zero x y z p q r = r
+  maximum-these (suc zero) x y z p q r = r
+  maximum-these (suc (suc zero)) x y z p q r = r ∙ q ∙ x
+  maximum-these (suc (suc (suc zero))) x y z p q r = r ∙ q ∙ p ∙ y
+  maximum-these (suc (suc (suc (suc n)))) x y z p q r =
+      let m = suc (suc (suc (suc n))) in
+      cc (le-ltb m 2 (omega arith), ne-eqb m 2 (λ f. omega arith), ne-eqb m 3 (λ f. omega arith))
 
-  maximum-four : (n : ℕ) → 4 ≤ n → strikeOf c - strikeOf d ≡ maximumOf (take n these)
-  unfolding maximumOf
-  maximum-four n h = let k : n ≡ suc (suc (suc (suc (n - 4)))) = omega arith in rw k
+-- The first legs of a record, one by one.
+module _ (us : Legs) (long : length (us .legs) ≡ 16) where
+  abbrev at : ℕ → Leg
+  at i = getD (us .legs) i noLeg
 
--- The first legs of an array of 16, one by one.
-module _ (l : List Leg) (long : length l ≡ 16) where
-  abbrev pub at : ℕ → Leg
-  at i = getD l i noLeg
+  abbrev listed : List Leg
+  listed = at 0 ∷ at 1 ∷ at 2 ∷ at 3 ∷ at 4 ∷ drop 5 (us .legs)
 
-  next : (i : ℕ) → i < 16 → drop i l ≡ at i ∷ drop (suc i) l
-  next i h = drop-cons l i noLeg (omega arith)
+  next : (i : ℕ) → i < 16 → drop i (us .legs) ≡ at i ∷ drop (suc i) (us .legs)
+  next i h = drop-cons (us .legs) i noLeg (omega arith)
 
-  firsts : l ≡ at 0 ∷ at 1 ∷ at 2 ∷ at 3 ∷ at 4 ∷ drop 5 l
-  firsts =
+  legs-listed : us .legs ≡ listed
+  legs-listed =
       rw (← next 4 (omega arith), ← next 3 (omega arith), ← next 2 (omega arith), ← next 1 (omega arith), ← next 0 (omega arith))
 
-  module _ (n : ℕ) where
-    pub two : n ≡ 2 → at 0 ∷ at 1 ∷ [] ≡ take n l
-    two e = rw (e, firsts)
+  -- what is so of the first legs is so of the record's legs
+  pub shown : (f : List Leg → ℕ) (n : ℕ) {r : ℕ} → us .len ≡ n → r ≡ f (take n listed) → r ≡ f (legsIn us)
+  shown f n e h = h ∙ ap (λ (ls : List Leg). f (take n ls)) (sym legs-listed) ∙ ap (λ (k : ℕ). f (take k (us .legs))) (sym e)
 
-    pub three : n ≡ 3 → at 0 ∷ at 1 ∷ at 2 ∷ [] ≡ take n l
-    three e = rw (e, firsts)
+  pub shape-other : (us .len ≡ 2 → ⊥) → (us .len ≡ 3 → ⊥) → (us .len ≡ 4 → ⊥) → 0 ≡ shapeOf (legsIn us)
+  shape-other f g h = shown shapeOf (us .len) refl (shape-none _ _ _ _ _ _ (us .len) f g h)
 
-    pub four : n ≡ 4 → at 0 ∷ at 1 ∷ at 2 ∷ at 3 ∷ [] ≡ take n l
-    four e = rw (e, firsts)
+  pub class-other : (w : Walked) → (us .len ≡ 3 → ⊥) → pairClass w ≡ classOf (legsIn us) w
+  class-other w h = shown (λ ls. classOf ls w) (us .len) refl (class-pairs _ _ _ _ _ _ (us .len) w h)
 
-    pub shape-other : (n ≡ 2 → ⊥) → (n ≡ 3 → ⊥) → (n ≡ 4 → ⊥) → 0 ≡ shapeOf (take n l)
-    shape-other f g h = rw firsts (shape-none _ _ _ _ _ _ n f g h)
-
-    pub class-other : (w : Walked) → (n ≡ 3 → ⊥) → pairClass w ≡ classOf (take n l) w
-    class-other w h = rw firsts (class-pairs _ _ _ _ _ _ n w h)
-
-    pub maximum-few : n < 2 → 0 ≡ maximumOf (take n l)
-    maximum-few h = rw firsts (maximum-none _ _ _ _ _ _ n h)
-
-    pub maximum-many : 4 ≤ n → strikeOf (at 2) - strikeOf (at 3) ≡ maximumOf (take n l)
-    maximum-many h = rw firsts (maximum-four _ _ _ _ _ _ n h)
+  pub maximum : {x y z p q r : ℕ}
+      → x ≡ (strikeOf (at 0) - strikeOf (at 1)) + (strikeOf (at 1) - strikeOf (at 0))
+      → y ≡ strikeOf (at 1) - min (strikeOf (at 0)) (strikeOf (at 2))
+      → z ≡ strikeOf (at 2) - strikeOf (at 3)
+      → p ≡ cond (eqb (us .len) 3) y z
+      → q ≡ cond (eqb (us .len) 2) x p
+      → r ≡ cond (ltb (us .len) 2) 0 q
+      → r ≡ maximumOf (legsIn us)
+  maximum x y z p q r =
+      shown maximumOf (us .len) refl (maximum-these (at 0) (at 1) (at 2) (at 3) (at 4) _ (us .len) x y z p q r)

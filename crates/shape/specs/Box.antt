@@ -8,7 +8,7 @@ use Rattle.rules.specs.Pairing.{oneExpiry}
 use Rattle.rules.specs.Class.{isOf, opposite}
 
 -- one expiry, two strikes, a call and a put at each
-abbrev pub boxSeries : Series → Series → Series → Series → List Bool
+unfoldable pub boxSeries : Series → Series → Series → Series → List Bool
 boxSeries p q d c =
     oneExpiry p q
     ∷ oneExpiry c d
@@ -21,6 +21,6 @@ boxSeries p q d c =
     ∷ []
 
 -- one contract of each, the calls opposite, and at each strike call and put opposite
-abbrev pub boxSides : Leg → Leg → Leg → Leg → List Bool
+unfoldable pub boxSides : Leg → Leg → Leg → Leg → List Bool
 boxSides p q d c =
     isOf 1 p ∷ isOf 1 q ∷ isOf 1 c ∷ isOf 1 d ∷ opposite c d ∷ opposite c p ∷ opposite d q ∷ []

@@ -1,4 +1,5 @@
-// The shape and the class of unit legs, and the most that their shape can be worth.
+// The shape and the class of unit legs, and M, the most that their shape can be worth.
+// Strikes are compared by differences, since a sum of two could pass 64 bits: so every function takes any legs.
 use choice::both;
 use choice::choose;
 use choice::either;
@@ -10,8 +11,8 @@ use rules::Series;
 ghost use mathlib.Core.Path.{_≡_};
 ghost use mathlib.Core.Bool.{cond};
 ghost use mathlib.Core.List.{[], _∷_};
-ghost use lib.Dec.{leb};
 ghost use Prim.Native.Nat.{_+_, _-_, _*_, min, max};
+ghost use lib.Dec.{leb};
 ghost use Rattle.rules.specs.Lists.{sameBool, every};
 ghost use Rattle.rules.specs.Pairing.{Walked, oneExpiry};
 ghost use Rattle.rules.specs.Order.{legsIn};
@@ -25,18 +26,26 @@ fn same(a: bool, b: bool) -> bool
     if a { b } else { negated(b) }
 }
 
+fn all_three(a: bool, b: bool, c: bool) -> bool
+    ensures { λ r. ⌜ r ≡ every (a ∷ b ∷ c ∷ []) ⌝ }
+{
+    both(both(a, b), c)
+}
+
 fn all_four(a: bool, b: bool, c: bool, d: bool) -> bool
     ensures { λ r. ⌜ r ≡ every (a ∷ b ∷ c ∷ d ∷ []) ⌝ }
 {
     both(both(a, b), both(c, d))
 }
 
+// The same type and expiry.
 fn one_expiry(s: Series, t: Series) -> bool
     ensures { λ r. ⌜ r ≡ oneExpiry s t ⌝ }
 {
     both(same(s.call, t.call), s.expiry == t.expiry)
 }
 
+// One is bought and the other sold.
 fn opposite(a: Leg, b: Leg) -> bool
     ensures { λ r. ⌜ r ≡ opposite a b ⌝ }
 {
@@ -60,6 +69,7 @@ fn between(a: u64, m: u64, b: u64) -> bool
     either(both(a < m, m < b), both(b < m, m < a))
 }
 
+// `m` has the middle strike.
 fn is_butterfly(a: Leg, m: Leg, b: Leg) -> bool
     ensures { λ r. ⌜ r ≡ isButterfly a m b ⌝ }
 {
@@ -79,27 +89,28 @@ fn is_butterfly(a: Leg, m: Leg, b: Leg) -> bool
     )
 }
 
-// `x` less `y`, and 0 where `y` is the greater.
+// `x` less `y`, and 0 where `y` is greater.
 fn less(x: u64, y: u64) -> u64
     ensures { λ r. ⌜ r ≡ x - y ⌝ }
 {
     if x < y { 0 } else { x - y }
 }
 
-// How far `m` is above the lower of two strikes, and how far it is below the higher.
+// How far `m` is above the lower of `a` and `b`, and 0 where it is below.
 fn above_lower(a: u64, m: u64, b: u64) -> u64
     ensures { λ r. ⌜ r ≡ m - min a b ⌝ }
 {
     if a < b { less(m, a) } else { less(m, b) }
 }
 
+// How far `m` is below the higher of `a` and `b`, and 0 where it is above.
 fn below_higher(a: u64, m: u64, b: u64) -> u64
     ensures { λ r. ⌜ r ≡ max a b - m ⌝ }
 {
     if a < b { less(b, m) } else { less(a, m) }
 }
 
-// The two distances tell where `m` is between the strikes, with no sum that could pass 64 bits.
+// The middle strike is as far from one outer strike as from the other.
 fn is_true(a: Leg, m: Leg, b: Leg) -> bool
     ensures { λ r. ⌜ r ≡ isTrue a m b ⌝ }
 {
@@ -108,6 +119,7 @@ fn is_true(a: Leg, m: Leg, b: Leg) -> bool
     low == high
 }
 
+// The middle strike of calls is no nearer to the lower strike, that of puts no nearer to the higher.
 fn leans(a: Leg, m: Leg, b: Leg) -> bool
     ensures { λ r. ⌜ r ≡ cond (m .series .call) (leb (strikeOf a + strikeOf b) (2 * strikeOf m)) (leb (2 * strikeOf m) (strikeOf a + strikeOf b)) ⌝ }
 {
@@ -122,12 +134,7 @@ fn is_leaning(a: Leg, m: Leg, b: Leg) -> bool
     both(is_butterfly(a, m, b), leans(a, m, b))
 }
 
-fn all_three(a: bool, b: bool, c: bool) -> bool
-    ensures { λ r. ⌜ r ≡ every (a ∷ b ∷ c ∷ []) ⌝ }
-{
-    both(both(a, b), c)
-}
-
+// One expiry, two strikes, a call and a put at each.
 fn box_series(p: Series, q: Series, d: Series, c: Series) -> bool
     ensures { λ r. ⌜ r ≡ every (boxSeries p q d c) ⌝ }
 {
@@ -147,6 +154,7 @@ fn box_series(p: Series, q: Series, d: Series, c: Series) -> bool
     )
 }
 
+// One contract of each, the calls opposite, and at each strike call and put opposite.
 fn box_sides(p: Leg, q: Leg, d: Leg, c: Leg) -> bool
     ensures { λ r. ⌜ r ≡ every (boxSides p q d c) ⌝ }
 {
@@ -156,6 +164,7 @@ fn box_sides(p: Leg, q: Leg, d: Leg, c: Leg) -> bool
     )
 }
 
+// `p` and `c` are the put and the call of the lower strike, `q` and `d` those of the higher.
 fn is_box(p: Leg, q: Leg, d: Leg, c: Leg) -> bool
     ensures { λ r. ⌜ r ≡ isBox p q d c ⌝ }
 {
@@ -183,6 +192,7 @@ fn shape_of_four(p: Leg, q: Leg, d: Leg, c: Leg) -> u64
     pick(is_box(p, q, d, c), 4, 0)
 }
 
+// The shape of unit legs in the first walk's sequence.
 pub fn shape_of(us: Legs) -> u64
     ensures { λ r. ⌜ r ≡ shapeOf (legsIn us) ⌝ }
 {
@@ -203,13 +213,14 @@ pub fn shape_of(us: Legs) -> u64
     0
 }
 
+// A leaning butterfly is a debit if the middle is sold, a credit if it is bought.
 fn class_of_three(a: Leg, m: Leg, b: Leg, pairs: u64) -> u64
     ensures { λ r. ⌜ ((w : Walked) → pairClass w ≡ pairs → r ≡ classOf (a ∷ m ∷ b ∷ []) w) ⌝ }
 {
     pick(is_leaning(a, m, b), pick(m.bought, 2, 1), pairs)
 }
 
-// `pairs` is the class that the pairs and loners of a walk give.
+// The class of unit legs in the first walk's sequence. `pairs` is the class that the pairs and loners of a walk give.
 pub fn class_of(us: Legs, pairs: u64) -> u64
     ensures { λ r. ⌜ ((w : Walked) → pairClass w ≡ pairs → r ≡ classOf (legsIn us) w) ⌝ }
 {
@@ -230,6 +241,7 @@ fn apart(x: u64, y: u64) -> u64
     if x < y { y - x } else { x - y }
 }
 
+// M of check 24, of unit legs in the first walk's sequence.
 pub fn maximum_of(us: Legs) -> u64
     ensures { λ r. ⌜ r ≡ maximumOf (legsIn us) ⌝ }
 {
@@ -238,14 +250,6 @@ pub fn maximum_of(us: Legs) -> u64
     let b = us.legs[1].series.strike.0;
     let c = us.legs[2].series.strike.0;
     let d = us.legs[3].series.strike.0;
-    if n < 2 {
-        return 0;
-    }
-    if n == 2 {
-        return apart(a, b);
-    }
-    if n == 3 {
-        return above_lower(a, b, c);
-    }
-    less(c, d)
+    let more = pick(n == 3, above_lower(a, b, c), less(c, d));
+    pick(n < 2, 0, pick(n == 2, apart(a, b), more))
 }
