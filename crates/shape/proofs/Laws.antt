@@ -86,6 +86,13 @@ pub sides-read : (p q d c : Leg) {calls lower higher x y r : Bool}
 unfolding boxSides
 sides-read p q d c f s k x y r = rw (← f, ← s, ← k) (joined _ _ x y r)
 
+leb-alike : (a b c d : ℕ) → (c ≤ d → a ≤ b) → (d < c → b < a) → leb a b ≡ leb c d
+leb-alike a b c d f g = go (leb c d) refl
+  where
+    go : (t : Bool) → leb c d ≡ t → leb a b ≡ t
+    go true e = le-leb a b (f (leb-true c d e))
+    go false e = lt-leb a b (g (leb-false c d e))
+
 -- Twice the middle strike against the sum of the outer ones, by its distances from the lower and from the higher.
 module _ (a m b : ℕ) {low high : ℕ} (l : low ≡ m - min a b) (h : high ≡ max a b - m) where
   pub middle : eqb low high ≡ eqb (2 * m) (a + b)
@@ -95,27 +102,19 @@ module _ (a m b : ℕ) {low high : ℕ} (l : low ≡ m - min a b) (h : high ≡ 
       go true e = let f = eqb-true (2 * m) (a + b) e in eq-eqb low high (omega arith)
       go false e = ne-eqb low high (λ f. eqb-false (2 * m) (a + b) e (omega arith))
 
-  above : leb high low ≡ leb (a + b) (2 * m)
-  above = go (leb (a + b) (2 * m)) refl
-    where
-      go : (t : Bool) → leb (a + b) (2 * m) ≡ t → leb high low ≡ t
-      go true e = let f = leb-true (a + b) (2 * m) e in le-leb high low (omega arith)
-      go false e = let f = leb-false (a + b) (2 * m) e in lt-leb high low (omega arith)
+  pub leaning : (call : Bool) {r : Bool}
+      → r ≡ cond call (leb high low) (leb low high)
+      → r ≡ cond call (leb (a + b) (2 * m)) (leb (2 * m) (a + b))
+  leaning call e =
+      let calls = leb-alike high low (a + b) (2 * m) (λ f. omega arith) (λ f. omega arith) in
+      let puts = leb-alike low high (2 * m) (a + b) (λ f. omega arith) (λ f. omega arith) in
+      rw (← calls, ← puts) e
 
-  below : leb low high ≡ leb (2 * m) (a + b)
-  below = go (leb (2 * m) (a + b)) refl
-    where
-      go : (t : Bool) → leb (2 * m) (a + b) ≡ t → leb low high ≡ t
-      go true e = let f = leb-true (2 * m) (a + b) e in le-leb low high (omega arith)
-      go false e = let f = leb-false (2 * m) (a + b) e in lt-leb low high (omega arith)
-
-  pub leaning : (call : Bool) {r : Bool} → r ≡ cond call (leb high low) (leb low high) → r ≡ cond call (leb (a + b) (2 * m)) (leb (2 * m) (a + b))
-  leaning call e = rw (← above, ← below) e
-
-abbrev pub noLeg : Leg
+-- what the code reads past the end
+abbrev noLeg : Leg
 noLeg = record { root = 0; series = record { call = false; expiry = 0; strike = record { 0 = 0 } }; bought = false; size = 0 }
 
--- The numbers of legs that have no case of their own.
+-- The first `n` of some legs, for the numbers that the code takes together.
 module _ (a b c d e : Leg) (r : List Leg) where
   abbrev these : List Leg
   these = a ∷ b ∷ c ∷ d ∷ e ∷ r
@@ -137,22 +136,17 @@ module _ (a b c d e : Leg) (r : List Leg) where
   class-pairs (suc (suc (suc zero))) w h = absurd (h refl)
   class-pairs (suc (suc (suc (suc n)))) w h = refl
 
-  maximum-these : (n : ℕ) {x y z p q r : ℕ}
-      → x ≡ (strikeOf a - strikeOf b) + (strikeOf b - strikeOf a)
-      → y ≡ strikeOf b - min (strikeOf a) (strikeOf c)
-      → z ≡ strikeOf c - strikeOf d
-      → p ≡ cond (eqb n 3) y z
-      → q ≡ cond (eqb n 2) x p
-      → r ≡ cond (ltb n 2) 0 q
-      → r ≡ maximumOf (take n these)
+  maximum-these : (n : ℕ)
+      → cond (ltb n 2) 0 (cond (eqb n 2) ((strikeOf a - strikeOf b) + (strikeOf b - strikeOf a)) (cond (eqb n 3) (strikeOf b - min (strikeOf a) (strikeOf c)) (strikeOf c - strikeOf d)))
+      ≡ maximumOf (take n these)
   unfolding maximumOf
-  maximum-these zero x y z p q r = r
-  maximum-these (suc zero) x y z p q r = r
-  maximum-these (suc (suc zero)) x y z p q r = r ∙ q ∙ x
-  maximum-these (suc (suc (suc zero))) x y z p q r = r ∙ q ∙ p ∙ y
-  maximum-these (suc (suc (suc (suc n)))) x y z p q r =
+  maximum-these zero = refl
+  maximum-these (suc zero) = refl
+  maximum-these (suc (suc zero)) = refl
+  maximum-these (suc (suc (suc zero))) = refl
+  maximum-these (suc (suc (suc (suc n)))) =
       let m = suc (suc (suc (suc n))) in
-      cc (le-ltb m 2 (omega arith), ne-eqb m 2 (λ f. omega arith), ne-eqb m 3 (λ f. omega arith))
+      rw (le-ltb m 2 (omega arith), ne-eqb m 2 (λ f. omega arith), ne-eqb m 3 (λ f. omega arith))
 
 -- The first legs of a record, one by one.
 module _ (us : Legs) (long : length (us .legs) ≡ 16) where
@@ -188,4 +182,4 @@ module _ (us : Legs) (long : length (us .legs) ≡ 16) where
       → r ≡ cond (ltb (us .len) 2) 0 q
       → r ≡ maximumOf (legsIn us)
   maximum x y z p q r =
-      shown maximumOf (us .len) refl (maximum-these (at 0) (at 1) (at 2) (at 3) (at 4) _ (us .len) x y z p q r)
+      cc (shown maximumOf (us .len) refl (maximum-these (at 0) (at 1) (at 2) (at 3) (at 4) (drop 5 (us .legs)) (us .len)))
