@@ -1,0 +1,185 @@
+-- The definitions as the code computes them.
+use mathlib.Core.Path.{_≡_, refl, sym, ap, _∙_}
+use mathlib.Core.List.{List, [], _∷_, _++_}
+use mathlib.Core.Bool.{Bool, true, false, cond, not, _&&_}
+use Prim.Native.Nat.{ℕ, zero, suc, _+_, _-_, _*_, _≤_, _<_, min, max}
+use native.Mathlib.Omega.{arith}
+use lib.Dec.{eqb, leb, ltb}
+use lib.ListN.{length, take, drop, getD}
+use lib.Seq.{drop-cons}
+use borrow.Author.Tests.{eqb-true, eqb-false, leb-true, leb-false, eq-eqb, ne-eqb, le-leb, lt-leb, le-ltb}
+use Rattle.rules.specs.declared.Leg.{Leg}
+use Rattle.rules.specs.declared.Legs.{Legs}
+use Rattle.rules.specs.declared.Series.{Series}
+use Rattle.rules.specs.Lists.{every}
+use Rattle.rules.specs.Pairing.{Walked, oneExpiry}
+use Rattle.rules.specs.Order.{legsIn}
+use Rattle.rules.specs.Class.{strikeOf, isOf, opposite, isVertical, between, isButterfly, shapeOf, classOf, pairClass}
+use Rattle.rules.specs.Checks.{maximumOf}
+use Rattle.shape.specs.Box.{boxSeries, boxSides}
+
+every-append : (xs ys : List Bool) → every xs && every ys ≡ every (xs ++ ys)
+unfolding every
+every-append [] ys = refl
+every-append (true ∷ xs) ys = every-append xs ys
+every-append (false ∷ xs) ys = refl
+
+-- two parts of a list of tests
+pub joined : (xs ys : List Bool) {x y z : Bool} → x ≡ every xs → y ≡ every ys → z ≡ x && y → z ≡ every (xs ++ ys)
+joined xs ys p q r = cc (every-append xs ys)
+
+pub every-three : (a b c : Bool) → (a && b) && c ≡ every (a ∷ b ∷ c ∷ [])
+unfolding every
+every-three false b c = refl
+every-three true false c = refl
+every-three true true false = refl
+every-three true true true = refl
+
+pub every-four : (a b c d : Bool) → (a && b) && (c && d) ≡ every (a ∷ b ∷ c ∷ d ∷ [])
+unfolding every
+every-four false b c d = refl
+every-four true false c d = refl
+every-four true true false d = refl
+every-four true true true false = refl
+every-four true true true true = refl
+
+pub vertical : (a b : Leg) {expiry sides r : Bool}
+    → expiry ≡ oneExpiry (a .series) (b .series)
+    → sides ≡ opposite a b
+    → r ≡ every (expiry ∷ isOf 1 a ∷ isOf 1 b ∷ sides ∷ [])
+    → r ≡ isVertical a b
+unfolding isVertical
+vertical a b e s r = rw (← e, ← s) r
+
+pub butterfly : (a m b : Leg) {first second left right middle x y r : Bool}
+    → first ≡ oneExpiry (a .series) (m .series)
+    → second ≡ oneExpiry (m .series) (b .series)
+    → left ≡ opposite a m
+    → right ≡ opposite m b
+    → middle ≡ between (strikeOf a) (strikeOf m) (strikeOf b)
+    → x ≡ every (first ∷ second ∷ isOf 1 a ∷ isOf 2 m ∷ [])
+    → y ≡ every (isOf 1 b ∷ left ∷ right ∷ middle ∷ [])
+    → r ≡ x && y
+    → r ≡ isButterfly a m b
+unfolding isButterfly
+butterfly a m b f s l k z x y r = rw (← f, ← s, ← l, ← k, ← z) (joined _ _ x y r)
+
+pub box-read : (p q d c : Series) {puts calls put x y r : Bool}
+    → puts ≡ oneExpiry p q
+    → calls ≡ oneExpiry c d
+    → put ≡ not (p .call)
+    → x ≡ every (puts ∷ calls ∷ eqb (c .expiry) (p .expiry) ∷ c .call ∷ [])
+    → y ≡ every (put ∷ eqb (c .strike .0) (p .strike .0) ∷ eqb (d .strike .0) (q .strike .0) ∷ ltb (c .strike .0) (d .strike .0) ∷ [])
+    → r ≡ x && y
+    → r ≡ every (boxSeries p q d c)
+unfolding boxSeries
+box-read p q d c f s k x y r = rw (← f, ← s, ← k) (joined _ _ x y r)
+
+pub sides-read : (p q d c : Leg) {calls lower higher x y r : Bool}
+    → calls ≡ opposite c d
+    → lower ≡ opposite c p
+    → higher ≡ opposite d q
+    → x ≡ every (isOf 1 p ∷ isOf 1 q ∷ isOf 1 c ∷ isOf 1 d ∷ [])
+    → y ≡ every (calls ∷ lower ∷ higher ∷ [])
+    → r ≡ x && y
+    → r ≡ every (boxSides p q d c)
+unfolding boxSides
+sides-read p q d c f s k x y r = rw (← f, ← s, ← k) (joined _ _ x y r)
+
+leb-alike : (a b c d : ℕ) → (c ≤ d → a ≤ b) → (d < c → b < a) → leb a b ≡ leb c d
+leb-alike a b c d f g = go (leb c d) refl
+  where
+    go : (t : Bool) → leb c d ≡ t → leb a b ≡ t
+    go true e = le-leb a b (f (leb-true c d e))
+    go false e = lt-leb a b (g (leb-false c d e))
+
+-- Twice the middle strike against the sum of the outer ones, by its distances from the lower and from the higher.
+module _ (a m b : ℕ) {low high : ℕ} (l : low ≡ m - min a b) (h : high ≡ max a b - m) where
+  pub middle : eqb low high ≡ eqb (2 * m) (a + b)
+  middle = go (eqb (2 * m) (a + b)) refl
+    where
+      go : (t : Bool) → eqb (2 * m) (a + b) ≡ t → eqb low high ≡ t
+      go true e = let f = eqb-true (2 * m) (a + b) e in eq-eqb low high (omega arith)
+      go false e = ne-eqb low high (λ f. eqb-false (2 * m) (a + b) e (omega arith))
+
+  pub leaning : (call : Bool) {r : Bool}
+      → r ≡ cond call (leb high low) (leb low high)
+      → r ≡ cond call (leb (a + b) (2 * m)) (leb (2 * m) (a + b))
+  leaning call e =
+      let calls = leb-alike high low (a + b) (2 * m) (λ f. omega arith) (λ f. omega arith) in
+      let puts = leb-alike low high (2 * m) (a + b) (λ f. omega arith) (λ f. omega arith) in
+      rw (← calls, ← puts) e
+
+-- what the code reads past the end
+abbrev noLeg : Leg
+noLeg = record { root = 0; series = record { call = false; expiry = 0; strike = record { 0 = 0 } }; bought = false; size = 0 }
+
+-- The first `n` of some legs, for the numbers that the code takes together.
+module _ (a b c d e : Leg) (r : List Leg) where
+  abbrev these : List Leg
+  these = a ∷ b ∷ c ∷ d ∷ e ∷ r
+
+  shape-none : (n : ℕ) → (n ≡ 2 → ⊥) → (n ≡ 3 → ⊥) → (n ≡ 4 → ⊥) → 0 ≡ shapeOf (take n these)
+  unfolding shapeOf
+  shape-none zero f g h = refl
+  shape-none (suc zero) f g h = refl
+  shape-none (suc (suc zero)) f g h = absurd (f refl)
+  shape-none (suc (suc (suc zero))) f g h = absurd (g refl)
+  shape-none (suc (suc (suc (suc zero)))) f g h = absurd (h refl)
+  shape-none (suc (suc (suc (suc (suc n))))) f g h = refl
+
+  class-pairs : (n : ℕ) (w : Walked) → (n ≡ 3 → ⊥) → pairClass w ≡ classOf (take n these) w
+  unfolding classOf
+  class-pairs zero w h = refl
+  class-pairs (suc zero) w h = refl
+  class-pairs (suc (suc zero)) w h = refl
+  class-pairs (suc (suc (suc zero))) w h = absurd (h refl)
+  class-pairs (suc (suc (suc (suc n)))) w h = refl
+
+  maximum-these : (n : ℕ)
+      → cond (ltb n 2) 0 (cond (eqb n 2) ((strikeOf a - strikeOf b) + (strikeOf b - strikeOf a)) (cond (eqb n 3) (strikeOf b - min (strikeOf a) (strikeOf c)) (strikeOf c - strikeOf d)))
+      ≡ maximumOf (take n these)
+  unfolding maximumOf
+  maximum-these zero = refl
+  maximum-these (suc zero) = refl
+  maximum-these (suc (suc zero)) = refl
+  maximum-these (suc (suc (suc zero))) = refl
+  maximum-these (suc (suc (suc (suc n)))) =
+      let m = suc (suc (suc (suc n))) in
+      rw (le-ltb m 2 (omega arith), ne-eqb m 2 (λ f. omega arith), ne-eqb m 3 (λ f. omega arith))
+
+-- The first legs of a record, one by one.
+module _ (us : Legs) (long : length (us .legs) ≡ 16) where
+  abbrev at : ℕ → Leg
+  at i = getD (us .legs) i noLeg
+
+  abbrev listed : List Leg
+  listed = at 0 ∷ at 1 ∷ at 2 ∷ at 3 ∷ at 4 ∷ drop 5 (us .legs)
+
+  next : (i : ℕ) → i < 16 → drop i (us .legs) ≡ at i ∷ drop (suc i) (us .legs)
+  next i h = drop-cons (us .legs) i noLeg (omega arith)
+
+  legs-listed : us .legs ≡ listed
+  legs-listed =
+      rw (← next 4 (omega arith), ← next 3 (omega arith), ← next 2 (omega arith), ← next 1 (omega arith), ← next 0 (omega arith))
+
+  -- what is so of the first legs is so of the record's legs
+  pub shown : (f : List Leg → ℕ) (n : ℕ) {r : ℕ} → us .len ≡ n → r ≡ f (take n listed) → r ≡ f (legsIn us)
+  shown f n e h = h ∙ ap (λ (ls : List Leg). f (take n ls)) (sym legs-listed) ∙ ap (λ (k : ℕ). f (take k (us .legs))) (sym e)
+
+  pub shape-other : (us .len ≡ 2 → ⊥) → (us .len ≡ 3 → ⊥) → (us .len ≡ 4 → ⊥) → 0 ≡ shapeOf (legsIn us)
+  shape-other f g h = shown shapeOf (us .len) refl (shape-none _ _ _ _ _ _ (us .len) f g h)
+
+  pub class-other : (w : Walked) → (us .len ≡ 3 → ⊥) → pairClass w ≡ classOf (legsIn us) w
+  class-other w h = shown (λ ls. classOf ls w) (us .len) refl (class-pairs _ _ _ _ _ _ (us .len) w h)
+
+  pub maximum : {x y z p q r : ℕ}
+      → x ≡ (strikeOf (at 0) - strikeOf (at 1)) + (strikeOf (at 1) - strikeOf (at 0))
+      → y ≡ strikeOf (at 1) - min (strikeOf (at 0)) (strikeOf (at 2))
+      → z ≡ strikeOf (at 2) - strikeOf (at 3)
+      → p ≡ cond (eqb (us .len) 3) y z
+      → q ≡ cond (eqb (us .len) 2) x p
+      → r ≡ cond (ltb (us .len) 2) 0 q
+      → r ≡ maximumOf (legsIn us)
+  maximum x y z p q r =
+      cc (shown maximumOf (us .len) refl (maximum-these (at 0) (at 1) (at 2) (at 3) (at 4) (drop 5 (us .legs)) (us .len)))
