@@ -16,7 +16,7 @@ ghost use lib.Dec.{leb};
 ghost use Rattle.rules.specs.Lists.{sameBool, every};
 ghost use Rattle.rules.specs.Pairing.{Walked, oneExpiry};
 ghost use Rattle.rules.specs.Order.{legsIn};
-ghost use Rattle.rules.specs.Class.{strikeOf, opposite, isVertical, between, isButterfly, isTrue, isBox, shapeOf, isLeaning, pairClass, classOf};
+ghost use Rattle.rules.specs.Class.{strikeOf, opposite, isVertical, between, isButterfly, isTrueButterfly, isBox, shapeOf, hasOwnClass, pairClass, classOf};
 ghost use Rattle.rules.specs.Checks.{maximumOf};
 ghost use Rattle.shape.specs.Box.{boxSeries, boxSides};
 
@@ -112,7 +112,7 @@ fn below_higher(a: u64, m: u64, b: u64) -> u64
 
 // The middle strike is as far from one outer strike as from the other.
 fn is_true(a: Leg, m: Leg, b: Leg) -> bool
-    ensures { λ r. ⌜ r ≡ isTrue a m b ⌝ }
+    ensures { λ r. ⌜ r ≡ isTrueButterfly a m b ⌝ }
 {
     let low = above_lower(a.series.strike.0, m.series.strike.0, b.series.strike.0);
     let high = below_higher(a.series.strike.0, m.series.strike.0, b.series.strike.0);
@@ -129,7 +129,7 @@ fn leans(a: Leg, m: Leg, b: Leg) -> bool
 }
 
 fn is_leaning(a: Leg, m: Leg, b: Leg) -> bool
-    ensures { λ r. ⌜ r ≡ isLeaning a m b ⌝ }
+    ensures { λ r. ⌜ r ≡ hasOwnClass a m b ⌝ }
 {
     both(is_butterfly(a, m, b), leans(a, m, b))
 }

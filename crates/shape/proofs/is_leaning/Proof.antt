@@ -1,11 +1,11 @@
 use mathlib.Core.Path.{_∙_}
 use mathlib.Core.Bool.{_&&_}
-use Rattle.rules.specs.Class.{isLeaning}
+use Rattle.rules.specs.Class.{hasOwnClass}
 use Rattle.shape.proofs.is_leaning.Statement.{statement}
 use Rattle.shape.proofs.is_leaning.Tie as tie
 
 returns : tie.Need-returns
-unfolding isLeaning
+unfolding hasOwnClass
 returns c = c .both .ensures ∙ (λ i. c .before .before .is-butterfly .ensures i && c .before .leans .ensures i)
 
 pub is-leaning-spec : {M : Type 1} → statement M
