@@ -19,7 +19,7 @@ ghost use Rattle.rules.specs.Checks.{isPositive, isNegative};
 ghost use Rattle.rules.specs.Numbers.{isBadCount, isSameSeries, isOtherRoot, isBadPrice};
 
 // A count's size, whichever its side.
-pub fn is_bad_count(size: u64) -> bool
+fn is_bad_count(size: u64) -> bool
     ensures { λ r. ⌜ r ≡ not (within 1 10000 size) ⌝ }
 {
     negated(within(1, 10000, size))
@@ -39,7 +39,7 @@ pub fn some_bad_count(o: Order) -> bool
     r
 }
 
-pub fn same_series(a: Leg, b: Leg) -> bool
+fn same_series(a: Leg, b: Leg) -> bool
     ensures { λ r. ⌜ r ≡ isSameSeries a b ⌝ }
 {
     let kind = choose(a.series.call, b.series.call, negated(b.series.call));
@@ -70,7 +70,7 @@ pub fn some_series_twice(l: Legs) -> bool
     r
 }
 
-pub fn other_root(a: Leg, b: Leg) -> bool
+fn other_root(a: Leg, b: Leg) -> bool
     ensures { λ r. ⌜ r ≡ isOtherRoot a b ⌝ }
 {
     negated(a.root == b.root)
@@ -91,13 +91,13 @@ pub fn some_other_root(l: Legs) -> bool
     r
 }
 
-pub fn is_positive(p: Price) -> bool
+fn is_positive(p: Price) -> bool
     ensures { λ r. ⌜ r ≡ isPositive p ⌝ }
 {
     both(negated(p.received), 0 < p.size.0)
 }
 
-pub fn is_negative(p: Price) -> bool
+fn is_negative(p: Price) -> bool
     ensures { λ r. ⌜ r ≡ isNegative p ⌝ }
 {
     both(p.received, 0 < p.size.0)
