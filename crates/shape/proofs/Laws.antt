@@ -1,7 +1,7 @@
 -- The definitions as the code computes them.
 use mathlib.Core.Path.{_≡_, refl, sym, ap, _∙_}
 use mathlib.Core.List.{List, [], _∷_, _++_}
-use mathlib.Core.Bool.{Bool, true, false, cond, not, _&&_}
+use mathlib.Core.Bool.{Bool, true, false, cond, not, _&&_, Bool·beq}
 use Prim.Native.Nat.{ℕ, zero, suc, _+_, _-_, _*_, _≤_, _<_, min, max}
 use native.Mathlib.Omega.{arith}
 use lib.Dec.{eqb, leb, ltb}
@@ -11,12 +11,18 @@ use borrow.Author.Tests.{eqb-true, eqb-false, leb-true, leb-false, eq-eqb, ne-eq
 use Rattle.rules.specs.declared.Leg.{Leg}
 use Rattle.rules.specs.declared.Legs.{Legs}
 use Rattle.rules.specs.declared.Series.{Series}
-use Rattle.rules.specs.Lists.{every}
+use Rattle.rules.specs.Lists.{sameBool, every}
 use Rattle.rules.specs.Pairing.{Walked, oneExpiry}
 use Rattle.rules.specs.Order.{legsIn}
-use Rattle.rules.specs.Class.{strikeOf, isOf, opposite, isVertical, between, isButterfly, shapeOf, classOf, pairClass}
+use Rattle.rules.specs.Class.{strikeOf, isOf, opposite, isVertical, between, isButterfly, isTrueButterfly, hasOwnClass, shapeOf, classOf, pairClass}
 use Rattle.rules.specs.Checks.{maximumOf}
 use Rattle.shape.specs.Box.{boxSeries, boxSides}
+
+pub same : (a b : Bool) → Bool·beq a b ≡ sameBool a b
+same true true = refl
+same true false = refl
+same false true = refl
+same false false = refl
 
 every-append : (xs ys : List Bool) → every xs && every ys ≡ every (xs ++ ys)
 unfolding every
@@ -28,7 +34,7 @@ every-append (false ∷ xs) ys = refl
 pub joined : (xs ys : List Bool) {x y z : Bool} → x ≡ every xs → y ≡ every ys → z ≡ x && y → z ≡ every (xs ++ ys)
 joined xs ys p q r = cc (every-append xs ys)
 
-pub every-three : (a b c : Bool) → (a && b) && c ≡ every (a ∷ b ∷ c ∷ [])
+every-three : (a b c : Bool) → (a && b) && c ≡ every (a ∷ b ∷ c ∷ [])
 unfolding every
 every-three false b c = refl
 every-three true false c = refl
@@ -43,15 +49,15 @@ every-four true true false d = refl
 every-four true true true false = refl
 every-four true true true true = refl
 
-pub vertical : (a b : Leg) {expiry sides r : Bool}
+pub vertical-read : (a b : Leg) {expiry sides r : Bool}
     → expiry ≡ oneExpiry (a .series) (b .series)
     → sides ≡ opposite a b
     → r ≡ every (expiry ∷ isOf 1 a ∷ isOf 1 b ∷ sides ∷ [])
     → r ≡ isVertical a b
 unfolding isVertical
-vertical a b e s r = rw (← e, ← s) r
+vertical-read a b e s r = rw (← e, ← s) r
 
-pub butterfly : (a m b : Leg) {first second left right middle x y r : Bool}
+pub butterfly-read : (a m b : Leg) {first second left right middle x y r : Bool}
     → first ≡ oneExpiry (a .series) (m .series)
     → second ≡ oneExpiry (m .series) (b .series)
     → left ≡ opposite a m
@@ -62,7 +68,7 @@ pub butterfly : (a m b : Leg) {first second left right middle x y r : Bool}
     → r ≡ x && y
     → r ≡ isButterfly a m b
 unfolding isButterfly
-butterfly a m b f s l k z x y r = rw (← f, ← s, ← l, ← k, ← z) (joined _ _ x y r)
+butterfly-read a m b f s l k z x y r = rw (← f, ← s, ← l, ← k, ← z) (joined _ _ x y r)
 
 pub box-read : (p q d c : Series) {puts calls put x y r : Bool}
     → puts ≡ oneExpiry p q
@@ -75,16 +81,18 @@ pub box-read : (p q d c : Series) {puts calls put x y r : Bool}
 unfolding boxSeries
 box-read p q d c f s k x y r = rw (← f, ← s, ← k) (joined _ _ x y r)
 
-pub sides-read : (p q d c : Leg) {calls lower higher x y r : Bool}
+pub sides-read : (p q d c : Leg) {calls lower higher x first y r : Bool}
     → calls ≡ opposite c d
     → lower ≡ opposite c p
     → higher ≡ opposite d q
     → x ≡ every (isOf 1 p ∷ isOf 1 q ∷ isOf 1 c ∷ isOf 1 d ∷ [])
-    → y ≡ every (calls ∷ lower ∷ higher ∷ [])
+    → first ≡ calls && lower
+    → y ≡ first && higher
     → r ≡ x && y
     → r ≡ every (boxSides p q d c)
 unfolding boxSides
-sides-read p q d c f s k x y r = rw (← f, ← s, ← k) (joined _ _ x y r)
+sides-read p q d c {calls} {lower} {higher} f s k x z y r =
+    rw (← f, ← s, ← k) (joined _ _ x (cc (every-three calls lower higher)) r)
 
 leb-alike : (a b c d : ℕ) → (c ≤ d → a ≤ b) → (d < c → b < a) → leb a b ≡ leb c d
 leb-alike a b c d f g = go (leb c d) refl
@@ -94,21 +102,32 @@ leb-alike a b c d f g = go (leb c d) refl
     go false e = lt-leb a b (g (leb-false c d e))
 
 -- Twice the middle strike against the sum of the outer ones, by its distances from the lower and from the higher.
-module _ (a m b : ℕ) {low high : ℕ} (l : low ≡ m - min a b) (h : high ≡ max a b - m) where
-  pub middle : eqb low high ≡ eqb (2 * m) (a + b)
-  middle = go (eqb (2 * m) (a + b)) refl
-    where
-      go : (t : Bool) → eqb (2 * m) (a + b) ≡ t → eqb low high ≡ t
-      go true e = let f = eqb-true (2 * m) (a + b) e in eq-eqb low high (omega arith)
-      go false e = ne-eqb low high (λ f. eqb-false (2 * m) (a + b) e (omega arith))
+module _ (a m b : Leg) {low high : ℕ}
+    (l : low ≡ strikeOf m - min (strikeOf a) (strikeOf b))
+    (h : high ≡ max (strikeOf a) (strikeOf b) - strikeOf m) where
+  abbrev twice : ℕ
+  twice = 2 * strikeOf m
 
-  pub leaning : (call : Bool) {r : Bool}
-      → r ≡ cond call (leb high low) (leb low high)
-      → r ≡ cond call (leb (a + b) (2 * m)) (leb (2 * m) (a + b))
-  leaning call e =
-      let calls = leb-alike high low (a + b) (2 * m) (λ f. omega arith) (λ f. omega arith) in
-      let puts = leb-alike low high (2 * m) (a + b) (λ f. omega arith) (λ f. omega arith) in
-      rw (← calls, ← puts) e
+  abbrev sum : ℕ
+  sum = strikeOf a + strikeOf b
+
+  pub true-read : eqb low high ≡ isTrueButterfly a m b
+  true-read = go (eqb twice sum) refl
+    where
+      go : (t : Bool) → eqb twice sum ≡ t → eqb low high ≡ t
+      go true e = let f = eqb-true twice sum e in eq-eqb low high (omega arith)
+      go false e = ne-eqb low high (λ f. eqb-false twice sum e (omega arith))
+
+  pub own-class-read : {leans butterfly r : Bool}
+      → leans ≡ cond (m .series .call) (leb high low) (leb low high)
+      → butterfly ≡ isButterfly a m b
+      → r ≡ butterfly && leans
+      → r ≡ hasOwnClass a m b
+  unfolding hasOwnClass
+  own-class-read e f r =
+      let calls = leb-alike high low sum twice (λ g. omega arith) (λ g. omega arith) in
+      let puts = leb-alike low high twice sum (λ g. omega arith) (λ g. omega arith) in
+      rw (← calls, ← puts, ← e, ← f) r
 
 -- what the code reads past the end
 abbrev noLeg : Leg

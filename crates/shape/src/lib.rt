@@ -9,28 +9,14 @@ use rules::Leg;
 use rules::Legs;
 use rules::Series;
 ghost use mathlib.Core.Path.{_≡_};
-ghost use mathlib.Core.Bool.{cond};
 ghost use mathlib.Core.List.{[], _∷_};
-ghost use Prim.Native.Nat.{_+_, _-_, _*_, min, max};
-ghost use lib.Dec.{leb};
-ghost use Rattle.rules.specs.Lists.{sameBool, every};
+ghost use Prim.Native.Nat.{_+_, _-_, min, max};
+ghost use Rattle.rules.specs.Lists.{every};
 ghost use Rattle.rules.specs.Pairing.{Walked, oneExpiry};
 ghost use Rattle.rules.specs.Order.{legsIn};
-ghost use Rattle.rules.specs.Class.{strikeOf, opposite, isVertical, between, isButterfly, isTrueButterfly, isBox, shapeOf, hasOwnClass, pairClass, classOf};
+ghost use Rattle.rules.specs.Class.{opposite, isVertical, between, isButterfly, isTrueButterfly, isBox, shapeOf, hasOwnClass, pairClass, classOf};
 ghost use Rattle.rules.specs.Checks.{maximumOf};
 ghost use Rattle.shape.specs.Box.{boxSeries, boxSides};
-
-fn same(a: bool, b: bool) -> bool
-    ensures { λ r. ⌜ r ≡ sameBool a b ⌝ }
-{
-    if a { b } else { negated(b) }
-}
-
-fn all_three(a: bool, b: bool, c: bool) -> bool
-    ensures { λ r. ⌜ r ≡ every (a ∷ b ∷ c ∷ []) ⌝ }
-{
-    both(both(a, b), c)
-}
 
 fn all_four(a: bool, b: bool, c: bool, d: bool) -> bool
     ensures { λ r. ⌜ r ≡ every (a ∷ b ∷ c ∷ d ∷ []) ⌝ }
@@ -42,14 +28,14 @@ fn all_four(a: bool, b: bool, c: bool, d: bool) -> bool
 fn one_expiry(s: Series, t: Series) -> bool
     ensures { λ r. ⌜ r ≡ oneExpiry s t ⌝ }
 {
-    both(same(s.call, t.call), s.expiry == t.expiry)
+    both(s.call == t.call, s.expiry == t.expiry)
 }
 
 // One is bought and the other sold.
 fn opposite(a: Leg, b: Leg) -> bool
     ensures { λ r. ⌜ r ≡ opposite a b ⌝ }
 {
-    negated(same(a.bought, b.bought))
+    a.bought != b.bought
 }
 
 fn is_vertical(a: Leg, b: Leg) -> bool
@@ -111,7 +97,7 @@ fn below_higher(a: u64, m: u64, b: u64) -> u64
 }
 
 // The middle strike is as far from one outer strike as from the other.
-fn is_true(a: Leg, m: Leg, b: Leg) -> bool
+fn is_true_butterfly(a: Leg, m: Leg, b: Leg) -> bool
     ensures { λ r. ⌜ r ≡ isTrueButterfly a m b ⌝ }
 {
     let low = above_lower(a.series.strike.0, m.series.strike.0, b.series.strike.0);
@@ -119,19 +105,14 @@ fn is_true(a: Leg, m: Leg, b: Leg) -> bool
     low == high
 }
 
-// The middle strike of calls is no nearer to the lower strike, that of puts no nearer to the higher.
-fn leans(a: Leg, m: Leg, b: Leg) -> bool
-    ensures { λ r. ⌜ r ≡ cond (m .series .call) (leb (strikeOf a + strikeOf b) (2 * strikeOf m)) (leb (2 * strikeOf m) (strikeOf a + strikeOf b)) ⌝ }
+// The middle strike of calls is no nearer to the lower outer strike than to the higher, that of puts no nearer to the higher.
+fn has_own_class(a: Leg, m: Leg, b: Leg) -> bool
+    ensures { λ r. ⌜ r ≡ hasOwnClass a m b ⌝ }
 {
     let low = above_lower(a.series.strike.0, m.series.strike.0, b.series.strike.0);
     let high = below_higher(a.series.strike.0, m.series.strike.0, b.series.strike.0);
-    choose(m.series.call, high <= low, low <= high)
-}
-
-fn is_leaning(a: Leg, m: Leg, b: Leg) -> bool
-    ensures { λ r. ⌜ r ≡ hasOwnClass a m b ⌝ }
-{
-    both(is_butterfly(a, m, b), leans(a, m, b))
+    let leans = choose(m.series.call, high <= low, low <= high);
+    both(is_butterfly(a, m, b), leans)
 }
 
 // One expiry, two strikes, a call and a put at each.
@@ -160,7 +141,7 @@ fn box_sides(p: Leg, q: Leg, d: Leg, c: Leg) -> bool
 {
     both(
         all_four(p.size == 1, q.size == 1, c.size == 1, d.size == 1),
-        all_three(opposite(c, d), opposite(c, p), opposite(d, q)),
+        both(both(opposite(c, d), opposite(c, p)), opposite(d, q)),
     )
 }
 
@@ -183,7 +164,11 @@ fn shape_of_two(a: Leg, b: Leg) -> u64
 fn shape_of_three(a: Leg, m: Leg, b: Leg) -> u64
     ensures { λ r. ⌜ r ≡ shapeOf (a ∷ m ∷ b ∷ []) ⌝ }
 {
-    pick(is_butterfly(a, m, b), pick(is_true(a, m, b), 2, 3), 0)
+    pick(
+        is_butterfly(a, m, b),
+        pick(is_true_butterfly(a, m, b), 2, 3),
+        0,
+    )
 }
 
 fn shape_of_four(p: Leg, q: Leg, d: Leg, c: Leg) -> u64
@@ -213,11 +198,11 @@ pub fn shape_of(us: Legs) -> u64
     0
 }
 
-// A leaning butterfly is a debit if the middle is sold, a credit if it is bought.
+// A butterfly with a class of its own is a debit if the middle is sold, a credit if it is bought.
 fn class_of_three(a: Leg, m: Leg, b: Leg, pairs: u64) -> u64
     ensures { λ r. ⌜ ((w : Walked) → pairClass w ≡ pairs → r ≡ classOf (a ∷ m ∷ b ∷ []) w) ⌝ }
 {
-    pick(is_leaning(a, m, b), pick(m.bought, 2, 1), pairs)
+    pick(has_own_class(a, m, b), pick(m.bought, 2, 1), pairs)
 }
 
 // The class of unit legs in the first walk's sequence. `pairs` is the class that the pairs and loners of a walk give.
@@ -250,6 +235,7 @@ pub fn maximum_of(us: Legs) -> u64
     let b = us.legs[1].series.strike.0;
     let c = us.legs[2].series.strike.0;
     let d = us.legs[3].series.strike.0;
+    // Three legs are taken for a butterfly, more for a box with its calls last, from the highest strike down.
     let more = pick(n == 3, above_lower(a, b, c), less(c, d));
     pick(n < 2, 0, pick(n == 2, apart(a, b), more))
 }

@@ -6,7 +6,7 @@ use Rattle.shape.proofs.class_of_three.Tie as tie
 
 returns : tie.Need-returns
 unfolding classOf
-returns c = λ w e. c .pick2 .ensures ∙ (λ i. cond (c .before .before .is-leaning .ensures i) (c .before .pick .ensures i) (sym e i))
+returns c = λ w e. c .pick2 .ensures ∙ (λ i. cond (c .before .before .has-own-class .ensures i) (c .before .pick .ensures i) (sym e i))
 
 pub class-of-three-spec : {M : Type 1} → statement M
 class-of-three-spec =
