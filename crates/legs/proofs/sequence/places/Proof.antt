@@ -1,4 +1,4 @@
-use Rattle.pairing.proofs.Filling.{places-turn}
+use Rattle.tags.proofs.Filling.{places-turn}
 -- The keys of the legs passed, each with its place.
 use borrow.Author.Needs.{needs}
 use mathlib.Core.Path.{_≡_, refl, sym, ap, _∙_}

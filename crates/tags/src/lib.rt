@@ -1,0 +1,3 @@
+// The legs as each walk takes them: numbers that carry key and side, beside the open contracts.
+pub mod first;
+pub mod second;
