@@ -1,7 +1,7 @@
 -- Valid legs, in every sequence: what sorting, walking and dividing ask of them.
-use mathlib.Core.Path.{_≡_, refl, sym, ap, subst, _∙_}
+use mathlib.Core.Path.{_≡_, refl, sym, ap, _∙_}
 use mathlib.Core.List.{List, [], _∷_, map}
-use mathlib.Core.Bool.{Bool, true, false, cond, not, _&&_}
+use mathlib.Core.Bool.{Bool, true, false, not, true≢false}
 use Prim.Native.Nat.{ℕ, zero, suc, _≤_, _<_}
 use native.Mathlib.Omega.{arith}
 use lib.ListN.{length, take, getD}
@@ -74,19 +74,12 @@ equal-series a b r s =
     let w : sameBool (a .series .call) (b .series .call) ≡ true = ap (λ (c : Bool). sameBool (a .series .call) c) (ap (λ (u : Series). u .call) (sym s)) ∙ same-bool (a .series .call) in
     rw (x, w, y, z)
 
-no-both : (b : Bool) → b ≡ true → b ≡ false → ⊥
-no-both b e f = absurd (subst IsTrue (sym (sym f ∙ e)) tt)
-  where
-    IsTrue : Bool → Type 0
-    IsTrue true = Unit {0}
-    IsTrue false = ⊥
-
 -- a key that says the series is not that of another series
 module _ (key : Series → ℕ) (said : ℕ → Series) (says : (s : Series) → InRange s → said (key s) ≡ s) where
   keys-differ : (root : ℕ) (a b : Leg) → isSameSeries a b ≡ false → IsValidLeg a × (a .root ≡ root) → IsValidLeg b × (b .root ≡ root) → key (a .series) ≡ key (b .series) → ⊥
   keys-differ root a b h p q k =
       let e = sym (says (a .series) (p .0 .series)) ∙ ap said k ∙ says (b .series) (q .0 .series) in
-      no-both (isSameSeries a b) (equal-series a b (p .1 ∙ sym (q .1)) e) h
+      true≢false (sym (equal-series a b (p .1 ∙ sym (q .1)) e) ∙ h)
 
   both-all : (root : ℕ) (ls : List Leg) → All IsValidLeg ls → All (λ y. y .root ≡ root) ls → All (λ x. IsValidLeg x × (x .root ≡ root)) ls
   both-all root [] h k = tt
