@@ -7,8 +7,8 @@ use lib.ListN.{length, take}
 use lib.Seq.{length-take-le}
 use Rattle.rules.specs.Symbol.{writeSymbol}
 use Rattle.rules.proofs.Symbols.{handed-symbol, handed-nothing}
-use Rattle.symbol.proofs.writer.write.Statement.{statement}
-use Rattle.symbol.proofs.writer.write.Tie as tie
+use Rattle.writer.proofs.write.Statement.{statement}
+use Rattle.writer.proofs.write.Tie as tie
 
 slice-aggregate-result : tie.Need-slice-aggregate-result
 slice-aggregate-result c =

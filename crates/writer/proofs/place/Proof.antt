@@ -7,8 +7,8 @@ use mathlib.Core.List.{List, _++_}
 use Prim.Native.Nat.{ℕ, _≤_, _<_, _-_, _+_}
 use lib.ListN.{length, take, drop, set, getD, length-set}
 use lib.Seq.{paste, paste-suc, take-all}
-use Rattle.symbol.proofs.writer.place.Statement.{statement}
-use Rattle.symbol.proofs.writer.place.Tie as tie
+use Rattle.writer.proofs.place.Statement.{statement}
+use Rattle.writer.proofs.place.Tie as tie
 
 step : (d s : List ℕ) (i : ℕ) → i < length d → i < length s → set (paste d 0 s i) i (getD s i 0) ≡ paste d 0 s (i + 1)
 step d s i h k =

@@ -1,15 +1,15 @@
 // The symbol writer.
-use crate::reader::in_limits;
 use numeral::digits::byte_of;
 use numeral::root::is_root;
 use numeral::root::root_bytes;
 use rules::SymbolParts;
+use symbol::reader::in_limits;
 ghost use mathlib.Core.Path.{_≡_};
 ghost use mathlib.Core.List.{_++_};
 ghost use Prim.Native.Nat.{_≤_};
 ghost use lib.ListN.{length, drop};
 ghost use Rattle.rules.specs.Symbol.{inLayout, symbolOf, writeSymbol};
-ghost use Rattle.symbol.specs.Writer.{Fits, Handed};
+ghost use Rattle.writer.specs.Writer.{Fits, Handed};
 
 fn in_layout(p: SymbolParts) -> bool
     ensures { λ r. ⌜ r ≡ inLayout p ⌝ }

@@ -2,8 +2,8 @@ use native.Mathlib.Nat.{div-one, add-zero}
 use Rattle.rules.specs.Numerals.{numeral}
 use Rattle.rules.specs.Symbol.{symbolOf}
 use borrow.Author.Needs.{needs}
-use Rattle.symbol.proofs.writer.symbol_of.Statement.{statement}
-use Rattle.symbol.proofs.writer.symbol_of.Tie as tie
+use Rattle.writer.proofs.symbol_of.Statement.{statement}
+use Rattle.writer.proofs.symbol_of.Tie as tie
 
 returns : tie.Need-returns
 unfolding symbolOf numeral

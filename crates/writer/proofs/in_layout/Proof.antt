@@ -1,8 +1,8 @@
 use native.Mathlib.Omega.{arith}
-use Rattle.symbol.proofs.Laws.{root-too-large, layout-read}
+use Rattle.writer.proofs.Laws.{root-too-large, layout-read}
 use borrow.Author.Needs.{needs}
-use Rattle.symbol.proofs.writer.in_layout.Statement.{statement}
-use Rattle.symbol.proofs.writer.in_layout.Tie as tie
+use Rattle.writer.proofs.in_layout.Statement.{statement}
+use Rattle.writer.proofs.in_layout.Tie as tie
 
 returns : tie.Need-returns
 returns c = root-too-large (c .before .before .args .p) (c .if1 .taken)

@@ -5,10 +5,10 @@ use Prim.Native.Nat.{ℕ}
 use lib.ListN.{drop}
 use Rattle.rules.specs.Symbol.{SymbolWritten}
 use Rattle.rules.proofs.Symbols.{write-short, write-outside, write-of}
-use Rattle.symbol.proofs.Laws.{layout-fits}
+use Rattle.writer.proofs.Laws.{layout-fits}
 use borrow.Author.Needs.{needs}
-use Rattle.symbol.proofs.writer.fill.Statement.{statement}
-use Rattle.symbol.proofs.writer.fill.Tie as tie
+use Rattle.writer.proofs.fill.Statement.{statement}
+use Rattle.writer.proofs.fill.Tie as tie
 
 abbrev number : SymbolWritten → ℕ
 number w = w .number
