@@ -1,7 +1,7 @@
 // The symbol writer.
 use numeral::digits::byte_of;
-use numeral::root::is_root;
-use numeral::root::root_bytes;
+use roots::is_root;
+use roots::root_bytes;
 use rules::SymbolParts;
 use symbol::reader::in_limits;
 ghost use mathlib.Core.Path.{_≡_};

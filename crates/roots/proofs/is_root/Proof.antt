@@ -1,6 +1,6 @@
 use Rattle.rules.specs.Symbol.{isRoot, isRootTail, areSpaces}
-use Rattle.numeral.proofs.root.is_root.Statement.{statement}
-use Rattle.numeral.proofs.root.is_root.Tie as tie
+use Rattle.roots.proofs.is_root.Statement.{statement}
+use Rattle.roots.proofs.is_root.Tie as tie
 
 returns : tie.Need-returns
 unfolding isRoot isRootTail areSpaces
