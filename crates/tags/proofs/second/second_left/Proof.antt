@@ -6,7 +6,7 @@ use Prim.Native.Nat.{ℕ, _≤_, _-_, _<_, _+_, _*_, _/_, _%_}
 use native.Mathlib.Omega.{arith}
 use lib.ListN.{length, take, getD, length-set}
 use Rattle.tags.specs.Second.{secondTag}
-use Rattle.tags.proofs.Filling.{fill-turn}
+use Rattle.loops.proofs.Filling.{fill-turn}
 use Rattle.tags.proofs.second.second_left.Statement.{statement}
 use Rattle.tags.proofs.second.second_left.Tie as tie
 

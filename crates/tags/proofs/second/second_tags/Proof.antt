@@ -6,7 +6,8 @@ use Prim.Native.Nat.{ℕ, _≤_, _-_, _<_, _+_, _*_, _/_, _%_}
 use native.Mathlib.Omega.{arith}
 use lib.ListN.{length, take, getD, length-set}
 use Rattle.tags.specs.Second.{secondTag}
-use Rattle.tags.proofs.Filling.{fill-turn, below-turn, zeros-below}
+use Rattle.loops.proofs.Filling.{fill-turn}
+use Rattle.tags.proofs.Filling.{below-turn, zeros-below}
 use Rattle.tags.proofs.second.second_tags.Statement.{statement}
 use Rattle.tags.proofs.second.second_tags.Tie as tie
 
