@@ -5,7 +5,7 @@ ghost use Prim.Native.Nat.{_*_, _+_, _/_, _%_, _≤_, _<_};
 ghost use lib.ListN.{length, take, getD};
 ghost use Rattle.sorting.specs.Keys.{sortKeys, tagged};
 ghost use Rattle.walk.specs.Tags.{Tagged};
-ghost use Rattle.tags.specs.Second.{keyAgain, Moved, secondTag};
+ghost use Rattle.again.specs.Second.{keyAgain, Moved, secondTag};
 
 // The key of the second walk, from the tag of the first.
 fn second_key(tag: u64) -> u64

@@ -2,9 +2,9 @@ use borrow.Author.Needs.{needs}
 use native.Mathlib.Omega.{arith}
 use borrow.Author.Tests.{eq-eqb, ne-eqb}
 use Rattle.walk.specs.Tags.{seriesAt}
-use Rattle.tags.specs.Second.{keyAgain}
-use Rattle.tags.proofs.second.second_key.Statement.{statement}
-use Rattle.tags.proofs.second.second_key.Tie as tie
+use Rattle.again.specs.Second.{keyAgain}
+use Rattle.again.proofs.second_key.Statement.{statement}
+use Rattle.again.proofs.second_key.Tie as tie
 
 returns : tie.Need-returns
 unfolding keyAgain seriesAt

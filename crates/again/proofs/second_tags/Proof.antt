@@ -5,11 +5,11 @@ use mathlib.Core.List.{List, map}
 use Prim.Native.Nat.{ℕ, _≤_, _-_, _<_, _+_, _*_, _/_, _%_}
 use native.Mathlib.Omega.{arith}
 use lib.ListN.{length, take, getD, length-set}
-use Rattle.tags.specs.Second.{secondTag}
+use Rattle.again.specs.Second.{secondTag}
 use Rattle.loops.proofs.Filling.{fill-turn}
 use Rattle.tags.proofs.Filling.{below-turn, zeros-below}
-use Rattle.tags.proofs.second.second_tags.Statement.{statement}
-use Rattle.tags.proofs.second.second_tags.Tie as tie
+use Rattle.again.proofs.second_tags.Statement.{statement}
+use Rattle.again.proofs.second_tags.Tie as tie
 
 abbrev Inv-loop : tie.InvT-loop
 Inv-loop places tags n moved₀ i₀ moved i = (take i moved ≡ map (λ p. secondTag p (getD tags (p % 16) 0)) (take i places)) × (length moved ≡ 16) × (i ≤ n) × ((k : ℕ) → getD moved k 0 < 40000000000000000)

@@ -5,10 +5,10 @@ use mathlib.Core.List.{List, map}
 use Prim.Native.Nat.{ℕ, _≤_, _-_, _<_, _+_, _*_, _/_, _%_}
 use native.Mathlib.Omega.{arith}
 use lib.ListN.{length, take, getD, length-set}
-use Rattle.tags.specs.Second.{secondTag}
+use Rattle.again.specs.Second.{secondTag}
 use Rattle.loops.proofs.Filling.{fill-turn}
-use Rattle.tags.proofs.second.second_left.Statement.{statement}
-use Rattle.tags.proofs.second.second_left.Tie as tie
+use Rattle.again.proofs.second_left.Statement.{statement}
+use Rattle.again.proofs.second_left.Tie as tie
 
 abbrev Inv-loop : tie.InvT-loop
 Inv-loop places left n moved₀ i₀ moved i = (take i moved ≡ map (λ p. getD left (p % 16) 0) (take i places)) × (length moved ≡ 16) × (i ≤ n)

@@ -6,10 +6,10 @@ use Prim.Native.Nat.{ℕ, _≤_, _-_, _<_, _+_, _*_}
 use native.Mathlib.Omega.{arith}
 use lib.ListN.{length, take, length-set}
 use Rattle.sorting.specs.Keys.{sortKeys, tagged}
-use Rattle.tags.specs.Second.{keyAgain}
+use Rattle.again.specs.Second.{keyAgain}
 use Rattle.tags.proofs.Filling.{places-turn}
-use Rattle.tags.proofs.second.places.Statement.{statement}
-use Rattle.tags.proofs.second.places.Tie as tie
+use Rattle.again.proofs.places.Statement.{statement}
+use Rattle.again.proofs.places.Tie as tie
 
 abbrev Inv-loop : tie.InvT-loop
 Inv-loop tags n keys₀ i₀ keys i = (take i keys ≡ tagged 0 (map keyAgain (take i tags))) × (length keys ≡ 16) × (i ≤ n)
