@@ -17,7 +17,7 @@ use Rattle.sorting.specs.Keys.{sortKeys, tagged, EachTwo}
 use Rattle.sorting.proofs.Laws.{sort-same, by-expiry, each-two-map, tagged-says}
 use Rattle.walk.specs.Tags.{seriesAt, legAt, legsFrom, Tagged, noLeg}
 use Rattle.walk.proofs.Zip.{zip-length, zip-at}
-use Rattle.tags.specs.Second.{keyAgain, secondTag, Moved}
+use Rattle.again.specs.Second.{keyAgain, secondTag, Moved}
 use Rattle.tags.proofs.Places.{places-small, same-map}
 
 -- the second walk's key of a series

@@ -17,7 +17,7 @@ use Rattle.sorting.specs.Keys.{sortKeys, tagged, EachTwo}
 use Rattle.walk.specs.declared.Tally.{Tally}
 use Rattle.walk.specs.Tags.{legAt, legsFrom, Tagged, noLeg, none, noted, Walks}
 use Rattle.tags.specs.Legs.{InRange, tagOf}
-use Rattle.tags.specs.Second.{keyAgain, secondTag, Moved}
+use Rattle.again.specs.Second.{keyAgain, secondTag, Moved}
 use Rattle.loners.specs.Tallies.{allAlone, together, tallyClass, Loners}
 use Rattle.pairing.specs.Both.{Walkable, BothWalks}
 use Rattle.pairing.proofs.Back.{legs-back}

@@ -1,13 +1,13 @@
 // Both walks of an order's legs: how many pairings they make, and the class that pairs and loners give.
+use again::places;
+use again::second_left;
+use again::second_tags;
 use loners::class_of;
 use loners::joined;
 use loners::loners;
 use rules::Legs;
 use tags::first::sizes;
 use tags::first::tags;
-use tags::second::places;
-use tags::second::second_left;
-use tags::second::second_tags;
 use walk::walk;
 ghost use Rattle.pairing.specs.Both.{Walkable, BothWalks};
 

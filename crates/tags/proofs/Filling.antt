@@ -1,5 +1,5 @@
--- An array that is filled from the front with one value for each element.
-use mathlib.Core.Path.{_≡_, refl, sym, ap, ap₂, _∙_}
+-- An array of keys with their places, and of numbers below a bound, filled from the front.
+use mathlib.Core.Path.{_≡_, refl, ap, _∙_}
 use mathlib.Core.List.{List, [], _∷_, _++_, map}
 use mathlib.Core.Bool.{Bool, true, false}
 use Prim.Native.Nat.{ℕ, zero, suc, _+_, _*_, _<_, _≤_}
@@ -8,18 +8,10 @@ use native.Mathlib.Numerals.{add-one}
 use lib.ListN.{length, take, getD, set, replicate, length-map}
 use lib.Seq.{length-take-le, take-suc, take-suc-set, getD-set-same, getD-set-other, set-out}
 use lib.Dec.{eqb, ltb}
+use Rattle.loops.proofs.Filling.{map-append}
 use Rattle.sorting.specs.Keys.{tagged}
 use Rattle.sorting.proofs.Laws.{tagged-last}
 use borrow.Author.Tests.{eqb-true, eqb-false, ltb-true, ltb-false}
-
-module _ {A B : Type 0} (d : A) (f : A → B) where
-  pub map-append : (xs ys : List A) → map f (xs ++ ys) ≡ map f xs ++ map f ys
-  map-append [] ys = refl
-  map-append (x ∷ xs) ys = ap (λ (zs : List B). f x ∷ zs) (map-append xs ys)
-
-  pub fill-turn : (xs : List A) (ns : List B) (i : ℕ) (v : B) → i < length xs → i < length ns → v ≡ f (getD xs i d) → take i ns ≡ map f (take i xs)
-      → take (i + 1) (set ns i v) ≡ map f (take (i + 1) xs)
-  fill-turn xs ns i v h k e g = rw (add-one, take-suc-set ns i v k, take-suc xs i d h, map-append (take i xs) (getD xs i d ∷ []), g, e)
 
 -- each key with its place
 pub places-turn : {A : Type 0} (d : A) (key : A → ℕ) (xs : List A) (keys : List ℕ) (i v : ℕ) → i < length xs → i < length keys → v ≡ key (getD xs i d) * 16 + i → take i keys ≡ tagged 0 (map key (take i xs))

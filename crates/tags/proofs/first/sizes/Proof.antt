@@ -7,7 +7,7 @@ use native.Mathlib.Omega.{arith}
 use lib.ListN.{length, take, getD, length-map, length-set}
 use Rattle.rules.specs.declared.Leg.{Leg}
 use Rattle.walk.specs.Tags.{noLeg}
-use Rattle.tags.proofs.Filling.{fill-turn}
+use Rattle.loops.proofs.Filling.{fill-turn}
 use Rattle.tags.proofs.first.sizes.Statement.{statement}
 use Rattle.tags.proofs.first.sizes.Tie as tie
 

@@ -8,7 +8,8 @@ use lib.ListN.{length, take, getD, length-map, length-set}
 use Rattle.rules.specs.declared.Leg.{Leg}
 use Rattle.walk.specs.Tags.{noLeg}
 use Rattle.tags.specs.Legs.{tagOf}
-use Rattle.tags.proofs.Filling.{fill-turn, below-turn, zeros-below}
+use Rattle.loops.proofs.Filling.{fill-turn}
+use Rattle.tags.proofs.Filling.{below-turn, zeros-below}
 use Rattle.tags.proofs.first.tags.Statement.{statement}
 use Rattle.tags.proofs.first.tags.Tie as tie
 
