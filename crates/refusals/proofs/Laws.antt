@@ -1,4 +1,4 @@
--- What is found of the first `n` elements of a list, as a loop finds it place by place.
+-- Roots and prices, as the code finds them.
 use mathlib.Core.Path.{_≡_, refl, sym, ap, _∙_}
 use mathlib.Core.List.{List, [], _∷_}
 use mathlib.Core.Bool.{Bool, true, false, cond, not, _&&_, _||_}
@@ -17,14 +17,7 @@ use Rattle.rules.specs.Lists.{all, any, somePair}
 use Rattle.rules.specs.Checks.{isPositive, isNegative}
 use Rattle.rules.specs.Numbers.{isOtherRoot, isBadPrice}
 use Rattle.rules.proofs.Tests.{or-neither}
-
-or-assoc : (a b c : Bool) → (a || b) || c ≡ a || (b || c)
-or-assoc true b c = refl
-or-assoc false b c = refl
-
-or-false : (a : Bool) → a || false ≡ a
-or-false true = refl
-or-false false = refl
+use Rattle.loops.proofs.Finding.{or-false}
 
 and-true : (a : Bool) → a && true ≡ a
 and-true true = refl
@@ -36,44 +29,6 @@ noLeg = record { root = 0; series = record { call = false; expiry = 0; strike = 
 
 abbrev pub noRawLeg : RawLeg
 noRawLeg = record { bought = false; size = 0; symbol = [] }
-
--- two elements pass the test: they are found, or the one at `i` and one from `j` on, or two behind `i`
-abbrev pub from : {A : Type 0} (d : A) (xs : List A) (n : ℕ) (f : A → A → Bool) (r : Bool) (i j : ℕ) → Bool
-from d xs n f r i j = (r || any (f (getD xs i d)) (drop j (take n xs))) || somePair f (drop (i + 1) (take n xs))
-
-module _ {A : Type 0} (d : A) (xs : List A) (n : ℕ) (fits : n ≤ length xs) where
-  step : (i : ℕ) → i < n → drop i (take n xs) ≡ getD xs i d ∷ drop (i + 1) (take n xs)
-  step i h =
-      let l : i < length (take n xs) = omega (arith, length-take-le n xs fits) in
-      rw (add-one, drop-cons (take n xs) i d l, getD-take n xs i d h)
-
-  over : (i : ℕ) → n ≤ i → drop i (take n xs) ≡ []
-  over i h = let l : length (take n xs) ≤ i = omega (arith, length-take-le n xs fits) in drop-of-length-le (take n xs) {i = i} l
-
-  -- some element from `i` on passes the test
-  module _ (f : A → Bool) where
-    pub any-turn : (r r′ : Bool) (i : ℕ) → i < n → r′ ≡ r || f (getD xs i d) → r′ || any f (drop (i + 1) (take n xs)) ≡ r || any f (drop i (take n xs))
-    unfolding any
-    any-turn r r′ i h e = rw (step i h, e) (or-assoc r (f (getD xs i d)) (any f (drop (i + 1) (take n xs))))
-
-    pub any-end : (r : Bool) (i : ℕ) → n ≤ i → r || any f (drop i (take n xs)) ≡ r
-    unfolding any
-    any-end r i h = rw (over i h) (or-false r)
-
-  module _ (f : A → A → Bool) where
-    pub pair-enter : (r : Bool) (i : ℕ) → i < n → from d xs n f r i (i + 1) ≡ r || somePair f (drop i (take n xs))
-    unfolding somePair
-    pair-enter r i h = rw (step i h) (or-assoc r (any (f (getD xs i d)) (drop (i + 1) (take n xs))) (somePair f (drop (i + 1) (take n xs))))
-
-    pub pair-turn : (r r′ : Bool) (i j : ℕ) → j < n → r′ ≡ r || f (getD xs i d) (getD xs j d) → from d xs n f r′ i (j + 1) ≡ from d xs n f r i j
-    pair-turn r r′ i j h e = ap (λ (b : Bool). b || somePair f (drop (i + 1) (take n xs))) (any-turn (f (getD xs i d)) r r′ j h e)
-
-    pub pair-leave : (r : Bool) (i j : ℕ) → n ≤ j → from d xs n f r i j ≡ r || somePair f (drop (i + 1) (take n xs))
-    pair-leave r i j h = ap (λ (b : Bool). b || somePair f (drop (i + 1) (take n xs))) (any-end (f (getD xs i d)) r j h)
-
-    pub pair-end : (r : Bool) (i : ℕ) → n ≤ i → r || somePair f (drop i (take n xs)) ≡ r
-    unfolding somePair
-    pair-end r i h = rw (over i h) (or-false r)
 
 -- ---- roots: where two differ, one differs from the first
 

@@ -13,6 +13,7 @@ use rules::Mills;
 use rules::SymbolParts;
 use rules::SymbolRead;
 ghost use mathlib.Core.Path.{_≡_};
+ghost use Prim.Native.Nat.{_<_};
 ghost use lib.ListN.{length};
 ghost use Rattle.rules.specs.Symbol.{inLimits, partsOf, isSymbol, refusedRead, readSymbol};
 
@@ -29,9 +30,10 @@ pub fn in_limits(p: SymbolParts) -> bool
     )
 }
 
-fn parts_of(s: &[u8]) -> SymbolParts
+// The bounds are those of two bytes each, digits or not.
+pub fn parts_of(s: &[u8]) -> SymbolParts
     requires { ⌜ length (now s) ≡ 21 ⌝ }
-    ensures { λ r. ⌜ r ≡ partsOf (now (s .entry)) ⌝ }
+    ensures { λ r. ⌜ (r ≡ partsOf (now (s .entry))) × (r .year < 5000) × (r .month < 3000) × (r .day < 3000) ⌝ }
 {
     SymbolParts {
         root: root_of(s[0], s[1], s[2], s[3], s[4], s[5]),
@@ -43,8 +45,9 @@ fn parts_of(s: &[u8]) -> SymbolParts
     }
 }
 
-fn is_symbol(s: &[u8]) -> bool
-    requires { ⌜ length (now s) ≡ 21 ⌝ }
+// Whether 21 bytes are in the layout. `p` are the parts that they say, so that they are read once.
+pub fn is_symbol(s: &[u8], p: SymbolParts) -> bool
+    requires { ⌜ (length (now s) ≡ 21) × (p ≡ partsOf (now s)) ⌝ }
     ensures { λ r. ⌜ r ≡ isSymbol (now (s .entry)) ⌝ }
 {
     both(
@@ -55,7 +58,7 @@ fn is_symbol(s: &[u8]) -> bool
             ),
             are_digits(s, 13, 21),
         ),
-        in_limits(parts_of(s)),
+        in_limits(p),
     )
 }
 
@@ -82,10 +85,11 @@ pub fn read(s: &[u8]) -> SymbolRead
     if s.len() != 21 {
         return refused(1);
     }
-    if is_symbol(s) {
+    let p = parts_of(s);
+    if is_symbol(s, p) {
         return SymbolRead {
             number: 0,
-            parts: parts_of(s),
+            parts: p,
         };
     }
     refused(4)

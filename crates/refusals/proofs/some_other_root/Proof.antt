@@ -7,7 +7,8 @@ use native.Mathlib.Omega.{arith}
 use lib.ListN.{length, take, drop, getD, length-map}
 use Rattle.rules.specs.Lists.{any}
 use Rattle.rules.specs.Numbers.{isOtherRoot}
-use Rattle.refusals.proofs.Laws.{noLeg, any-turn, any-end, roots-from-first}
+use Rattle.loops.proofs.Finding.{any-turn, any-end}
+use Rattle.refusals.proofs.Laws.{noLeg, roots-from-first}
 use Rattle.refusals.proofs.some_other_root.Statement.{statement}
 use Rattle.refusals.proofs.some_other_root.Tie as tie
 

@@ -8,11 +8,11 @@ use Rattle.symbol.proofs.reader.is_symbol.Tie as tie
 
 returns : tie.Need-returns
 returns c =
-    let limits = c .before .in-limits .ensures ∙ ap inLimits (c .before .before .parts-of .ensures) in
-    let strike = c .before .before .before .before .are-digits2 .ensures in
-    let expiry = c .before .before .before .before .before .before .are-digits .ensures in
-    let root = c .before .before .before .before .before .before .before .is-root .ensures in
-    symbol-read _ (omega arith) root expiry strike limits (c .before .before .before .before .before .both .ensures) (c .before .before .before .both2 .ensures) (c .both3 .ensures)
+    let limits = c .before .in-limits .ensures ∙ ap inLimits (c .before .before .before .before .before .before .before .before .before .before .before .before .before .before .pre .1) in
+    let strike = c .before .before .before .are-digits2 .ensures in
+    let expiry = c .before .before .before .before .before .are-digits .ensures in
+    let root = c .before .before .before .before .before .before .is-root .ensures in
+    symbol-read _ (omega arith) root expiry strike limits (c .before .before .before .before .both .ensures) (c .before .before .both2 .ensures) (c .both3 .ensures)
 
 pub is-symbol-spec : {M : Type 1} → statement M
 is-symbol-spec =
@@ -29,7 +29,6 @@ is-symbol-spec =
     (λ c κs. tt)
     (λ c κs. search needs)
     (λ c κs. tt)
-    (λ c κs. search needs)
     (λ c κs. tt)
     (λ c κs. tt)
     returns)

@@ -9,8 +9,11 @@ use Rattle.symbol.proofs.reader.read.Tie as tie
 returns : tie.Need-returns
 returns c = c .refused .ensures ∙ sym (read-not-21 _ (c .before .if1 .taken))
 
+is-symbol-requires : tie.Need-is-symbol-requires
+is-symbol-requires c κs = (omega arith, c .parts-of .ensures .0)
+
 returns-2 : tie.Need-returns-2
-returns-2 c = ap (λ (p : SymbolParts). record { number = 0; parts = p }) (c .parts-of .ensures) ∙ sym (read-of _ (omega arith) (sym (c .before .before .is-symbol .ensures) ∙ c .before .if2 .taken))
+returns-2 c = ap (λ (p : SymbolParts). record { number = 0; parts = p }) (c .before .before .parts-of .ensures .0) ∙ sym (read-of _ (omega arith) (sym (c .before .is-symbol .ensures) ∙ c .if2 .taken))
 
 returns-3 : tie.Need-returns-3
 returns-3 c = c .refused2 .ensures ∙ sym (read-outside _ (omega arith) (sym (c .before .before .is-symbol .ensures) ∙ c .before .if2 .left))
@@ -22,7 +25,7 @@ read-spec =
     (λ c κs. tt)
     returns
     (λ c κs. search needs)
-    (λ c κs. search needs)
+    is-symbol-requires
     returns-2
     (λ c κs. tt)
     returns-3)
