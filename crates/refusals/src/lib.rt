@@ -4,10 +4,11 @@ use choice::choose;
 use choice::either;
 use choice::negated;
 use choice::within;
+use price::is_negative;
+use price::is_positive;
 use rules::Leg;
 use rules::Legs;
 use rules::Order;
-use rules::Price;
 use rules::Terms;
 ghost use mathlib.Core.Path.{_≡_};
 ghost use mathlib.Core.Bool.{not};
@@ -15,7 +16,6 @@ ghost use Prim.Native.Nat.{_≤_};
 ghost use Rattle.rules.specs.Limits.{within};
 ghost use Rattle.rules.specs.Lists.{any, somePair};
 ghost use Rattle.rules.specs.Order.{recordLegs, legsIn};
-ghost use Rattle.rules.specs.Checks.{isPositive, isNegative};
 ghost use Rattle.rules.specs.Numbers.{isBadCount, isSameSeries, isOtherRoot, isBadPrice};
 
 // A count's size, whichever its side.
@@ -89,18 +89,6 @@ pub fn some_other_root(l: Legs) -> bool
         i += 1;
     }
     r
-}
-
-fn is_positive(p: Price) -> bool
-    ensures { λ r. ⌜ r ≡ isPositive p ⌝ }
-{
-    both(negated(p.received), 0 < p.size.0)
-}
-
-fn is_negative(p: Price) -> bool
-    ensures { λ r. ⌜ r ≡ isNegative p ⌝ }
-{
-    both(p.received, 0 < p.size.0)
 }
 
 // Of one leg only the first place counts, and of more legs no sign is asked.

@@ -19,6 +19,7 @@ pub mod Sound
 pub mod Sequence
 pub mod Slicing
 pub mod Numbering
+pub mod Bounds
 pub mod FairTables
 pub mod Examples
 pub mod Demand1

@@ -30,6 +30,19 @@ unfolding firstOf
 none-applies true n es h = absurd (omega arith)
 none-applies false n es h = (refl, h)
 
+-- a test that applies gives its number, one that does not is passed over, and after the last there is none
+pub stop : {b : Bool} (n : ℕ) (es : List (Bool × ℕ)) → b ≡ true → n ≡ firstOf ((b, n) ∷ es)
+unfolding firstOf
+stop n es h = rw h
+
+pub skip : {b : Bool} (n : ℕ) (es : List (Bool × ℕ)) {r : ℕ} → b ≡ false → r ≡ firstOf es → r ≡ firstOf ((b, n) ∷ es)
+unfolding firstOf
+skip n es h e = rw h e
+
+pub ended : 0 ≡ firstOf []
+unfolding firstOf
+ended = refl
+
 -- the numbers rise from `n`
 abbrev rises : ℕ → List (Bool × ℕ) → Bool
 rises n [] = true

@@ -1,0 +1,25 @@
+// The tests of an amount paid for one option, of an order as of a quote.
+use choice::both;
+use choice::negated;
+use rules::Market;
+use rules::Mills;
+use rules::Series;
+use rules::Settings;
+ghost use mathlib.Core.Path.{_≡_};
+ghost use Rattle.rules.specs.Checks.{putTest, callTest};
+
+// Check 20: a put at its strike or above.
+pub fn put_test(s: Series, paid: Mills) -> bool
+    ensures { λ r. ⌜ r ≡ putTest s paid ⌝ }
+{
+    both(negated(s.call), s.strike.0 <= paid.0)
+}
+
+// Check 21: a call at the underlying's value or above.
+pub fn call_test(st: Settings, m: Market, s: Series, paid: Mills) -> bool
+    ensures { λ r. ⌜ r ≡ callTest st m s paid ⌝ }
+{
+    let priced = both(0 < m.underlying.0, m.underlying.0 <= paid.0);
+    let usual = both(st.adjusted == 0, m.extended == 0);
+    both(s.call, both(priced, usual))
+}

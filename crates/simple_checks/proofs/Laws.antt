@@ -1,0 +1,112 @@
+-- The checks of one leg, test for test.
+use mathlib.Core.Path.{_≡_, refl, sym, ap, _∙_}
+use mathlib.Core.List.{List, [], _∷_}
+use mathlib.Core.Bool.{Bool, true, false, cond, not, _&&_}
+use Prim.Native.Nat.{ℕ, _+_, _-_, _<_, _≤_}
+use native.Mathlib.Omega.{arith}
+use native.Mathlib.Nat.{mul-le-mul}
+use lib.Dec.{eqb, ltb}
+use borrow.Author.Tests.{ltb-true, ltb-false, lt-ltb, le-ltb}
+use Rattle.rules.specs.declared.Mills.{Mills}
+use Rattle.rules.specs.declared.Ticks.{Ticks}
+use Rattle.rules.specs.declared.Series.{Series}
+use Rattle.rules.specs.declared.Terms.{Terms}
+use Rattle.rules.specs.declared.Leg.{Leg}
+use Rattle.rules.specs.declared.Settings.{Settings}
+use Rattle.rules.specs.declared.Market.{Market}
+use Rattle.rules.specs.Lists.{all, every}
+use Rattle.rules.specs.Order.{isYes}
+use Rattle.rules.specs.Quantities.{distance}
+use Rattle.rules.specs.Checks.{isSkipped, putTest, callTest, simpleBuy, buyBuy, debitCredit, maximumValue}
+use Rattle.rules.specs.Class.{shapeOf}
+use Rattle.rules.specs.Market.{isBeyond, isTooFar, tickDistance}
+use Rattle.rules.specs.Numbers.{firstOf, rejection}
+use Rattle.rules.proofs.Numbering.{stop, skip, ended}
+
+and-false : (a : Bool) → a && false ≡ false
+and-false true = refl
+and-false false = refl
+
+buy-grouped : (asked paid bought passed : Bool) → ((asked && paid) && bought) && passed ≡ every (true ∷ asked ∷ paid ∷ ((bought && passed) && true) ∷ [])
+unfolding every
+buy-grouped false paid bought passed = refl
+buy-grouped true false bought passed = refl
+buy-grouped true true false passed = refl
+buy-grouped true true true false = refl
+buy-grouped true true true true = refl
+
+pub buy-read : (test : Series → Mills → Bool) (t : Terms) (u : Leg) {tested passed r : Bool}
+    → tested ≡ (not (isSkipped t) && not (t .price .received)) && u .bought
+    → passed ≡ test (u .series) (t .price .size)
+    → r ≡ tested && passed
+    → r ≡ simpleBuy test t (u ∷ [])
+unfolding simpleBuy all
+buy-read test t u e f g = cc (buy-grouped (not (isSkipped t)) (not (t .price .received)) (u .bought) (test (u .series) (t .price .size)))
+
+far-grouped : (limit stop manual far : Bool) → ((limit && stop) && manual) && far ≡ every (true ∷ not (not limit) ∷ not (not stop) ∷ not (not manual) ∷ (far && true) ∷ [])
+unfolding every
+far-grouped false stop manual far = refl
+far-grouped true false manual far = refl
+far-grouped true true false far = refl
+far-grouped true true true false = refl
+far-grouped true true true true = refl
+
+pub far-read : (st : Settings) (m : Market) (t : Terms) (u : Leg) {first plain far r : Bool}
+    → first ≡ eqb (t .kind) 0 && eqb (t .stop) 0
+    → plain ≡ first && eqb (t .manual) 0
+    → far ≡ isTooFar st m t u
+    → r ≡ plain && far
+    → r ≡ tickDistance st m t (u ∷ [])
+unfolding tickDistance all
+far-read st m t u e f g h = cc (far-grouped (eqb (t .kind) 0) (eqb (t .stop) 0) (eqb (t .manual) 0) (isTooFar st m t u))
+
+pub distance-bound : (ticks : Ticks) (tick : Mills) → ticks .0 ≤ 1000 → tick .0 ≤ 1000 → distance ticks tick .0 ≤ 1000000
+unfolding distance
+distance-bound ticks tick h k = omega (arith, mul-le-mul h k)
+
+-- a buy more than `d` above its reference
+pub beyond-buy : (amount reference d : ℕ) {bought : Bool} → bought ≡ true → ltb (reference + d) amount ≡ isBeyond bought amount reference d
+beyond-buy amount reference d e = rw e
+
+-- an amount received more than `d` below: none is where the reference is
+pub beyond-none : (amount reference d : ℕ) {bought : Bool} → bought ≡ false → reference < d → false ≡ isBeyond bought amount reference d
+beyond-none amount reference d e h = rw (e, le-ltb (amount + d) reference (omega arith))
+
+pub beyond-sell : (amount reference d : ℕ) {bought : Bool} → bought ≡ false → d ≤ reference → ltb amount (reference - d) ≡ isBeyond bought amount reference d
+beyond-sell amount reference d e h = rw e (go (ltb (amount + d) reference) refl)
+  where
+    go : (b : Bool) → ltb (amount + d) reference ≡ b → ltb amount (reference - d) ≡ b
+    go true f = let k = ltb-true (amount + d) reference f in lt-ltb amount (reference - d) (omega arith)
+    go false f = let k = ltb-false (amount + d) reference f in le-ltb amount (reference - d) (omega arith)
+
+-- what the code finds of a switch and its check is so of the definition's
+pub tested : (on : Bool) {p q b v : Bool} → p ≡ q → b ≡ on && p → b ≡ v → on && q ≡ v
+tested on e f g = cc
+
+-- ---- the first that applies: the checks of complex orders do not
+
+module _ (st : Settings) (m : Market) (t : Terms) (u : Leg) where
+  abbrev put : Bool
+  put = isYes (st .check20) && simpleBuy putTest t (u ∷ [])
+
+  abbrev call : Bool
+  call = isYes (st .check21) && simpleBuy (callTest st m) t (u ∷ [])
+
+  abbrev far : Bool
+  far = isYes (st .check25) && tickDistance st m t (u ∷ [])
+
+  one-leg : (class : ℕ) {r : ℕ} → r ≡ firstOf ((put, 20) ∷ (call, 21) ∷ (far, 25) ∷ []) → r ≡ rejection st m t (u ∷ []) class
+  unfolding rejection firstOf buyBuy debitCredit maximumValue shapeOf every
+  one-leg class e = rw (and-false (isYes (st .check22)), and-false (isYes (st .check23)), and-false (isYes (st .check24))) e
+
+  pub rejects-put : put ≡ true → (class : ℕ) → 20 ≡ rejection st m t (u ∷ []) class
+  rejects-put h class = one-leg class (stop 20 _ h)
+
+  pub rejects-call : put ≡ false → call ≡ true → (class : ℕ) → 21 ≡ rejection st m t (u ∷ []) class
+  rejects-call h k class = one-leg class (skip 20 _ h (stop 21 _ k))
+
+  pub rejects-far : put ≡ false → call ≡ false → far ≡ true → (class : ℕ) → 25 ≡ rejection st m t (u ∷ []) class
+  rejects-far h k l class = one-leg class (skip 20 _ h (skip 21 _ k (stop 25 _ l)))
+
+  pub accepts : put ≡ false → call ≡ false → far ≡ false → (class : ℕ) → 0 ≡ rejection st m t (u ∷ []) class
+  accepts h k l class = one-leg class (skip 20 _ h (skip 21 _ k (skip 25 _ l ended)))
