@@ -1,13 +1,13 @@
 -- What is found of the first `n` elements of an array, as a loop finds it place by place.
 use mathlib.Core.Path.{_≡_, refl, ap}
 use mathlib.Core.List.{List, [], _∷_}
-use mathlib.Core.Bool.{Bool, true, false, _||_}
+use mathlib.Core.Bool.{Bool, true, false, _&&_, _||_}
 use Prim.Native.Nat.{ℕ, _+_, _<_, _≤_}
 use native.Mathlib.Omega.{arith}
 use native.Mathlib.Numerals.{add-one}
 use lib.ListN.{length, take, drop, getD, drop-of-length-le}
 use lib.Seq.{drop-cons, getD-take, length-take-le}
-use Rattle.rules.specs.Lists.{any, somePair}
+use Rattle.rules.specs.Lists.{any, all, somePair}
 
 or-assoc : (a b c : Bool) → (a || b) || c ≡ a || (b || c)
 or-assoc true b c = refl
@@ -17,17 +17,25 @@ pub or-false : (a : Bool) → a || false ≡ a
 or-false true = refl
 or-false false = refl
 
+and-assoc : (a b c : Bool) → (a && b) && c ≡ a && (b && c)
+and-assoc true b c = refl
+and-assoc false b c = refl
+
+pub and-true : (a : Bool) → a && true ≡ a
+and-true true = refl
+and-true false = refl
+
 -- two elements pass the test: they are found, or the one at `i` and one from `j` on, or two behind `i`
 abbrev pub from : {A : Type 0} (d : A) (xs : List A) (n : ℕ) (f : A → A → Bool) (r : Bool) (i j : ℕ) → Bool
 from d xs n f r i j = (r || any (f (getD xs i d)) (drop j (take n xs))) || somePair f (drop (i + 1) (take n xs))
 
 module _ {A : Type 0} (d : A) (xs : List A) (n : ℕ) (fits : n ≤ length xs) where
-  step : (i : ℕ) → i < n → drop i (take n xs) ≡ getD xs i d ∷ drop (i + 1) (take n xs)
+  pub step : (i : ℕ) → i < n → drop i (take n xs) ≡ getD xs i d ∷ drop (i + 1) (take n xs)
   step i h =
       let l : i < length (take n xs) = omega (arith, length-take-le n xs fits) in
       rw (add-one, drop-cons (take n xs) i d l, getD-take n xs i d h)
 
-  over : (i : ℕ) → n ≤ i → drop i (take n xs) ≡ []
+  pub over : (i : ℕ) → n ≤ i → drop i (take n xs) ≡ []
   over i h = let l : length (take n xs) ≤ i = omega (arith, length-take-le n xs fits) in drop-of-length-le (take n xs) {i = i} l
 
   -- some element from `i` on passes the test
@@ -39,6 +47,15 @@ module _ {A : Type 0} (d : A) (xs : List A) (n : ℕ) (fits : n ≤ length xs) w
     pub any-end : (r : Bool) (i : ℕ) → n ≤ i → r || any f (drop i (take n xs)) ≡ r
     unfolding any
     any-end r i h = rw (over i h) (or-false r)
+
+    -- every element from `i` on passes the test
+    pub all-turn : (r r′ : Bool) (i : ℕ) → i < n → r′ ≡ r && f (getD xs i d) → r′ && all f (drop (i + 1) (take n xs)) ≡ r && all f (drop i (take n xs))
+    unfolding all
+    all-turn r r′ i h e = rw (step i h, e) (and-assoc r (f (getD xs i d)) (all f (drop (i + 1) (take n xs))))
+
+    pub all-end : (r : Bool) (i : ℕ) → n ≤ i → r && all f (drop i (take n xs)) ≡ r
+    unfolding all
+    all-end r i h = rw (over i h) (and-true r)
 
   module _ (f : A → A → Bool) where
     pub pair-enter : (r : Bool) (i : ℕ) → i < n → from d xs n f r i (i + 1) ≡ r || somePair f (drop i (take n xs))

@@ -17,11 +17,7 @@ use Rattle.rules.specs.Lists.{all, any, somePair}
 use Rattle.rules.specs.Checks.{isPositive, isNegative}
 use Rattle.rules.specs.Numbers.{isOtherRoot, isBadPrice}
 use Rattle.rules.proofs.Tests.{or-neither}
-use Rattle.loops.proofs.Finding.{or-false}
-
-and-true : (a : Bool) → a && true ≡ a
-and-true true = refl
-and-true false = refl
+use Rattle.loops.proofs.Finding.{or-false, and-true}
 
 -- what an array holds where no leg is written
 abbrev pub noLeg : Leg

@@ -43,6 +43,10 @@ pub ended : 0 ≡ firstOf []
 unfolding firstOf
 ended = refl
 
+-- what is found of a switch and its check is so of the definition's
+pub tested : (on : Bool) {p q b v : Bool} → p ≡ q → b ≡ on && p → b ≡ v → on && q ≡ v
+tested on e f g = cc
+
 -- the numbers rise from `n`
 abbrev rises : ℕ → List (Bool × ℕ) → Bool
 rises n [] = true

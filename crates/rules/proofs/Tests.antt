@@ -19,6 +19,10 @@ and-of {a} {b} p q = cc
 pub within-both : (least most x : ℕ) → within least most x ≡ true → (least ≤ x) × (x ≤ most)
 within-both least most x h = let k = and-both (leb least x) _ h in (leb-true least x (k .0), leb-true x most (k .1))
 
+pub and-no : (a : Bool) → a && false ≡ false
+and-no true = refl
+and-no false = refl
+
 pub and-false : (a b : Bool) → a && false && b ≡ false
 and-false true b = refl
 and-false false b = refl

@@ -130,7 +130,7 @@ module _ (a m b : Leg) {low high : ℕ}
       rw (← calls, ← puts, ← e, ← f) r
 
 -- what the code reads past the end
-abbrev noLeg : Leg
+abbrev pub noLeg : Leg
 noLeg = record { root = 0; series = record { call = false; expiry = 0; strike = record { 0 = 0 } }; bought = false; size = 0 }
 
 -- The first `n` of some legs, for the numbers that the code takes together.

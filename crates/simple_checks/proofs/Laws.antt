@@ -21,11 +21,8 @@ use Rattle.rules.specs.Checks.{isSkipped, putTest, callTest, simpleBuy, buyBuy,
 use Rattle.rules.specs.Class.{shapeOf}
 use Rattle.rules.specs.Market.{isBeyond, isTooFar, tickDistance}
 use Rattle.rules.specs.Numbers.{firstOf, rejection}
+use Rattle.rules.proofs.Tests.{and-no}
 use Rattle.rules.proofs.Numbering.{stop, skip, ended}
-
-and-false : (a : Bool) → a && false ≡ false
-and-false true = refl
-and-false false = refl
 
 buy-grouped : (asked paid bought passed : Bool) → ((asked && paid) && bought) && passed ≡ every (true ∷ asked ∷ paid ∷ ((bought && passed) && true) ∷ [])
 unfolding every
@@ -79,10 +76,6 @@ beyond-sell amount reference d e h = rw e (go (ltb (amount + d) reference) refl)
     go true f = let k = ltb-true (amount + d) reference f in lt-ltb amount (reference - d) (omega arith)
     go false f = let k = ltb-false (amount + d) reference f in le-ltb amount (reference - d) (omega arith)
 
--- what the code finds of a switch and its check is so of the definition's
-pub tested : (on : Bool) {p q b v : Bool} → p ≡ q → b ≡ on && p → b ≡ v → on && q ≡ v
-tested on e f g = cc
-
 -- ---- the first that applies: the checks of complex orders do not
 
 module _ (st : Settings) (m : Market) (t : Terms) (u : Leg) where
@@ -97,7 +90,7 @@ module _ (st : Settings) (m : Market) (t : Terms) (u : Leg) where
 
   one-leg : (class : ℕ) {r : ℕ} → r ≡ firstOf ((put, 20) ∷ (call, 21) ∷ (far, 25) ∷ []) → r ≡ rejection st m t (u ∷ []) class
   unfolding rejection firstOf buyBuy debitCredit maximumValue shapeOf every
-  one-leg class e = rw (and-false (isYes (st .check22)), and-false (isYes (st .check23)), and-false (isYes (st .check24))) e
+  one-leg class e = rw (and-no (isYes (st .check22)), and-no (isYes (st .check23)), and-no (isYes (st .check24))) e
 
   pub rejects-put : put ≡ true → (class : ℕ) → 20 ≡ rejection st m t (u ∷ []) class
   rejects-put h class = one-leg class (stop 20 _ h)

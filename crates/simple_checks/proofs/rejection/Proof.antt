@@ -1,6 +1,7 @@
 -- The first check that applies: each return is one place of the definition's list.
 use Rattle.rules.specs.Order.{isYes}
-use Rattle.simple_checks.proofs.Laws.{tested, rejects-put, rejects-call, rejects-far, accepts}
+use Rattle.rules.proofs.Numbering.{tested}
+use Rattle.simple_checks.proofs.Laws.{rejects-put, rejects-call, rejects-far, accepts}
 use borrow.Author.Needs.{needs}
 use Rattle.simple_checks.proofs.rejection.Statement.{statement}
 use Rattle.simple_checks.proofs.rejection.Tie as tie
