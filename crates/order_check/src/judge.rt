@@ -1,6 +1,8 @@
 // A valid order: its class, shape and pairings, and the first check that rejects it.
 use choice::pick;
+use classify::classify;
 use rules::Leg;
+use rules::Legs;
 use rules::Market;
 use rules::OrderAnswer;
 use rules::Settings;
@@ -8,10 +10,12 @@ use rules::Terms;
 ghost use mathlib.Core.Path.{_≡_};
 ghost use mathlib.Core.List.{[], _∷_};
 ghost use mathlib.Core.Bool.{true};
-ghost use Prim.Native.Nat.{_<_};
+ghost use Prim.Native.Nat.{_≤_, _<_};
+ghost use Rattle.rules.specs.Order.{legsIn};
 ghost use Rattle.rules.specs.Pairing.{byStrike};
 ghost use Rattle.rules.specs.Market.{settingsHold, marketHolds};
 ghost use Rattle.rules.specs.Numbers.{judged};
+ghost use Rattle.classify.specs.Legs.{Valid};
 
 // An order of one leg has nothing to sort, to divide or to pair.
 fn judge_simple(st: Settings, m: Market, t: Terms, x: Leg) -> OrderAnswer
@@ -31,4 +35,31 @@ fn judge_simple(st: Settings, m: Market, t: Terms, x: Leg) -> OrderAnswer
         shape: 0,
         pairings: 0,
     }
+}
+
+// No check of an order of more legs asks for the market.
+fn judge_complex(st: Settings, t: Terms, l: Legs) -> OrderAnswer
+    requires { ⌜ (settingsHold st ≡ true) × Valid l × (2 ≤ l .len) ⌝ }
+    ensures { λ r. ⌜ ((m : Market) → r ≡ judged st m t (byStrike (legsIn l))) ⌝ }
+{
+    let c = classify(l, st.european != 0);
+    let us = c.units;
+    OrderAnswer {
+        number: complex_checks::rejection(st, t, us, c.class, c.shape),
+        class: c.class,
+        shape: c.shape,
+        pairings: c.pairings,
+    }
+}
+
+// The legs may come in any sequence.
+pub fn judge(st: Settings, m: Market, t: Terms, l: Legs) -> OrderAnswer
+    requires { ⌜ (settingsHold st ≡ true) × (marketHolds m ≡ true) × Valid l × (1 ≤ l .len) ⌝ }
+    ensures { λ r. ⌜ r ≡ judged st m t (byStrike (legsIn l)) ⌝ }
+{
+    if l.len == 1 {
+        let x = l.legs[0];
+        return judge_simple(st, m, t, x);
+    }
+    judge_complex(st, t, l)
 }
