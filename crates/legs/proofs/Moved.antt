@@ -12,7 +12,7 @@ use Rattle.rules.proofs.Sorting.{all-perm, perm-sym}
 use Rattle.sorting.specs.Keys.{sortKeys, tagged, EachTwo}
 use Rattle.sorting.proofs.Laws.{sort-same, by-strike}
 use Rattle.walk.specs.Tags.{noLeg}
-use Rattle.pairing.proofs.Again.{places-small, same-map}
+use Rattle.tags.proofs.Places.{places-small, same-map}
 
 module _ (legs : List Leg) (n : ℕ) (full : length legs ≡ 16) (fits : n ≤ 16) (places : List ℕ)
     (order : take n places ≡ sortKeys (tagged 0 (map (λ x. strikeKey (x .series)) (take n legs))))

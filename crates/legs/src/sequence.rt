@@ -1,6 +1,6 @@
 // The legs sorted for the first walk, the latest walked first.
-use pairing::first::strike_key;
 use rules::Legs;
+use tags::first::strike_key;
 ghost use mathlib.Core.Path.{_≡_};
 ghost use mathlib.Core.List.{map};
 ghost use Prim.Native.Nat.{_≤_, _%_};
@@ -9,7 +9,7 @@ ghost use Rattle.rules.specs.Order.{legsIn};
 ghost use Rattle.rules.specs.Pairing.{strikeKey, byStrike};
 ghost use Rattle.sorting.specs.Keys.{sortKeys, tagged, EachTwo};
 ghost use Rattle.walk.specs.Tags.{noLeg};
-ghost use Rattle.pairing.specs.Legs.{AllInRange};
+ghost use Rattle.tags.specs.Legs.{AllInRange};
 
 // The legs' places in the sequence: in each number the key, and in its lowest four bits the place.
 fn places(l: Legs) -> [u64; 16]

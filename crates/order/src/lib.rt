@@ -1,3 +1,2 @@
 // Order records: made of what the host hands in.
-pub mod price;
 pub mod slices;

@@ -24,7 +24,7 @@ fn show(parts: SymbolParts) {
     let mut buffer = [46u8; 24];
     let mut number: u64 = 99;
     io::write_all(STDOUT_FILENO, b"|");
-    let part = symbol::writer::write(parts, &mut buffer, &mut number);
+    let part = writer::write(parts, &mut buffer, &mut number);
     io::write_all(STDOUT_FILENO, part);
     let back = symbol::reader::read(part);
     io::write_all(STDOUT_FILENO, b"| ");

@@ -17,7 +17,8 @@ use Rattle.sorting.specs.Keys.{sortKeys, tagged, EachTwo}
 use Rattle.sorting.proofs.Laws.{sort-same, by-expiry, each-two-map, tagged-says}
 use Rattle.walk.specs.Tags.{seriesAt, legAt, legsFrom, Tagged, noLeg}
 use Rattle.walk.proofs.Zip.{zip-length, zip-at}
-use Rattle.pairing.specs.Second.{keyAgain, secondTag, Moved}
+use Rattle.again.specs.Second.{keyAgain, secondTag, Moved}
+use Rattle.tags.proofs.Places.{places-small, same-map}
 
 -- the second walk's key of a series
 key-of : (s : Series) (c : Bool) → s .call ≡ c → expiryKey s ≡ packed (digit c) (s .strike .0) (99999999 - s .expiry)
@@ -28,7 +29,7 @@ decode : (k : ℕ) (s : Series) (c : Bool) → s .call ≡ c → eqb (k / 100000
 unfolding seriesAt
 decode k s c f p e q = let g = p ∙ sym f in λ i. record { call = g i; expiry = e i; strike = record { 0 = q i } }
 
-series-again : (s : Series) → s .expiry ≤ 99999999 → s .strike .0 ≤ 99999999 → (seriesAt true (expiryKey s) ≡ s) × (expiryKey s < 20000000000000000)
+pub series-again : (s : Series) → s .expiry ≤ 99999999 → s .strike .0 ≤ 99999999 → (seriesAt true (expiryKey s) ≡ s) × (expiryKey s < 20000000000000000)
 series-again s he hk = go (s .call) refl
   where
     go : (c : Bool) → s .call ≡ c → (seriesAt true (expiryKey s) ≡ s) × (expiryKey s < 20000000000000000)
@@ -79,16 +80,6 @@ zip-maps : (f : ℕ → ℕ → Leg) (g h : ℕ → ℕ) (ps : List ℕ) → zip
 unfolding zipWith
 zip-maps f g h [] = refl
 zip-maps f g h (p ∷ ps) = ap (λ (ls : List Leg). f (g p) (h p) ∷ ls) (zip-maps f g h ps)
-
-pub same-map : (f g : ℕ → Leg) (ps : List ℕ) → All (λ p. f p ≡ g p) ps → map f ps ≡ map g ps
-same-map f g [] h = refl
-same-map f g (p ∷ ps) h = ap₂ _∷_ (h .0) (same-map f g ps (h .1))
-
--- every tagged number's place is one of the list's
-pub places-small : (i n : ℕ) (ks : List ℕ) → i + length ks ≤ n → n ≤ 16 → All (λ t. t % 16 < n) (tagged i ks)
-unfolding tagged
-places-small i n [] h f = tt
-places-small i n (k ∷ ks) h f = (omega arith, places-small (suc i) n ks (omega arith) f)
 
 pub all-both : (P Q R : ℕ → Type 0) → ((p : ℕ) → P p → Q p → R p) → (ps : List ℕ) → All P ps → All Q ps → All R ps
 all-both P Q R f [] h k = tt

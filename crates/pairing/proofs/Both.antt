@@ -16,12 +16,13 @@ use Rattle.rules.proofs.Pairings.{pairing-fewer}
 use Rattle.sorting.specs.Keys.{sortKeys, tagged, EachTwo}
 use Rattle.walk.specs.declared.Tally.{Tally}
 use Rattle.walk.specs.Tags.{legAt, legsFrom, Tagged, noLeg, none, noted, Walks}
-use Rattle.pairing.specs.Legs.{InRange, tagOf, Walkable, BothWalks}
-use Rattle.pairing.specs.Second.{keyAgain, secondTag, Moved}
-use Rattle.pairing.specs.Tallies.{allAlone, together, tallyClass, Loners}
-use Rattle.pairing.proofs.Keys.{legs-back}
+use Rattle.tags.specs.Legs.{InRange, tagOf}
+use Rattle.again.specs.Second.{keyAgain, secondTag, Moved}
+use Rattle.loners.specs.Tallies.{allAlone, together, tallyClass, Loners}
+use Rattle.pairing.specs.Both.{Walkable, BothWalks}
+use Rattle.pairing.proofs.Back.{legs-back}
 use Rattle.pairing.proofs.Again.{zip-take, keys-are, moved-legs}
-use Rattle.pairing.proofs.Alone.{noted-both, pairs-counted, class-tallied}
+use Rattle.pairing.proofs.Tallied.{noted-both, pairs-counted, class-tallied}
 
 all-first : (P : Leg → Type 0) → P noLeg → (n : ℕ) (ls : List Leg) → ((i : ℕ) → i < n → P (getD ls i noLeg)) → All P (take n ls)
 all-first P d zero ls h = tt

@@ -1,5 +1,4 @@
-pub mod Keys
-pub mod Filling
-pub mod Alone
+pub mod Back
+pub mod Tallied
 pub mod Again
 pub mod Both

@@ -1,3 +1,1 @@
-pub mod Legs
-pub mod Second
-pub mod Tallies
+pub mod Both

@@ -1,19 +1,15 @@
 // Both walks of an order's legs: how many pairings they make, and the class that pairs and loners give.
-use crate::first::sizes;
-use crate::first::tags;
-use crate::second::places;
-use crate::second::second_left;
-use crate::second::second_tags;
-use crate::tally::class_of;
-use crate::tally::joined;
-use crate::tally::loners;
+use again::places;
+use again::second_left;
+use again::second_tags;
+use loners::class_of;
+use loners::joined;
+use loners::loners;
 use rules::Legs;
+use tags::first::sizes;
+use tags::first::tags;
 use walk::walk;
-ghost use Rattle.pairing.specs.Legs.{Walkable, BothWalks};
-
-pub mod first;
-pub mod second;
-pub mod tally;
+ghost use Rattle.pairing.specs.Both.{Walkable, BothWalks};
 
 pub struct Paired {
     pub pairings: u64,

@@ -1,3 +1,2 @@
-// Option symbols: reading and writing the 21 bytes of the published layout.
+// Option symbols: reading the 21 bytes of the published layout.
 pub mod reader;
-pub mod writer;

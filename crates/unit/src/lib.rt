@@ -49,7 +49,7 @@ pub extern "C" fn opc_write_symbol(
         right: option_type,
         strike: Mills(strike),
     };
-    let n = symbol::writer::fill(parts, out);
+    let n = writer::fill(parts, out);
     *number = n;
     if n == 0 {
         return 21;

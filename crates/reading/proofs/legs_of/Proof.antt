@@ -1,64 +1,75 @@
+-- The legs read so far, and a bad symbol that is found or still to be found.
+use mathlib.Core.Path.{_≡_, refl, sym, ap, _∙_}
+use mathlib.Core.Bool.{Bool, not, _||_}
+use Prim.Native.Nat.{ℕ, _≤_, _-_, _<_}
+use native.Mathlib.Omega.{arith}
+use lib.ListN.{length, take, drop, getD, length-map, length-set}
+use Rattle.rules.specs.declared.RawLeg.{RawLeg}
+use Rattle.rules.specs.Lists.{any}
+use Rattle.rules.specs.Symbol.{isSymbol}
+use Rattle.rules.specs.Order.{legOf, legsOf}
+use Rattle.loops.proofs.Filling.{fill-turn}
+use Rattle.loops.proofs.Finding.{any-turn, any-end}
+use Rattle.reading.proofs.Laws.{noRawLeg}
+use borrow.Author.Needs.{needs}
 use Rattle.reading.proofs.legs_of.Statement.{statement}
 use Rattle.reading.proofs.legs_of.Tie as tie
-use Rattle.reading.proofs.legs_of.Reads as reads
-use Rattle.reading.proofs.legs_of.Lts as lts
-use Rattle.choice.proofs.either.Reads as either-reads
-use Rattle.choice.proofs.negated.Reads as negated-reads
-use Rattle.reading.proofs.leg_of.Reads as leg-of-reads
+
+abbrev isBad : RawLeg → Bool
+isBad raw = not (isSymbol (raw .symbol))
 
 abbrev Inv-loop : tie.InvT-loop
-Inv-loop o n legs₀ bad₀ i₀ legs bad i = ?
+Inv-loop o n legs₀ bad₀ i₀ legs bad i =
+    (take i legs ≡ legsOf (take i (o .legs)))
+    × (bad || any isBad (drop i (take n (o .legs))) ≡ any isBad (take n (o .legs)))
+    × (length legs ≡ 16)
+    × (i ≤ n)
 
 abbrev μ-loop : tie.MeasureT-loop
-μ-loop o n legs₀ bad₀ i₀ legs bad i = ?
+μ-loop o n legs₀ bad₀ i₀ legs bad i = n - i
 
--- src/lib.rt:68:5
+full : (c : tie.Start Inv-loop μ-loop) → length (c .args .t1 .legs) ≡ 16
+full c = sym (length-map (c .args .t1 .legs) _) ∙ c .good .0 .1 .1 .0 .1 .0 .1
+
 loop-holds : tie.Need-loop-holds Inv-loop μ-loop
-loop-holds c = ?
+unfolding legsOf
+loop-holds c = (refl, refl, refl, omega arith)
 
--- src/lib.rt:69:19
-mul-raw : tie.Need-mul-raw Inv-loop μ-loop
-mul-raw c = ?
-
--- src/lib.rt:69:19
 element-copy-out-raw : tie.Need-element-copy-out-raw Inv-loop μ-loop
-element-copy-out-raw c = ?
+element-copy-out-raw c = omega (arith, full (c .before .before), c .before .before .pre)
 
--- src/lib.rt:70:13
-leg-of-requires : tie.Need-leg-of-requires Inv-loop μ-loop
-leg-of-requires c κs = ?
-
--- src/lib.rt:72:9
-mul-legs : tie.Need-mul-legs Inv-loop μ-loop
-mul-legs c = ?
-
--- src/lib.rt:72:9
 array-set-from-legs : tie.Need-array-set-from-legs Inv-loop μ-loop
-array-set-from-legs c = ?
+array-set-from-legs c = omega (arith, c .before .before .before .before .loop .inv .2)
 
--- src/lib.rt:73:27
-negated-requires : tie.Need-negated-requires Inv-loop μ-loop
-negated-requires c κs = ?
-
--- src/lib.rt:73:9
-either-requires : tie.Need-either-requires Inv-loop μ-loop
-either-requires c κs = ?
-
--- src/lib.rt:74:9
-add-i : tie.Need-add-i Inv-loop μ-loop
-add-i c = ?
-
--- src/lib.rt:68:5
-loop-less : tie.Need-loop-less Inv-loop μ-loop
-loop-less c = ?
-
--- src/lib.rt:68:5
 loop-again : tie.Need-loop-again Inv-loop μ-loop
-loop-again c = ?
+unfolding legsOf
+loop-again c =
+    let s = c .before .before .before .before .before .before .before in
+    let l = c .before .before .before .before .before .before .loop in
+    let n = s .args .t1 .len in
+    let legs = s .args .t1 .legs in
+    let x = c .before .before .before .leg-of .result in
+    let e = c .before .before .before .leg-of .ensures in
+    let b : c .either .result ≡ l .bad || not (isSymbol (getD legs (l .i) noRawLeg .symbol)) =
+    c .either .ensures ∙ ap (λ (v : Bool). l .bad || v) (c .before .negated .ensures ∙ ap not (e .good))
+    in (
+      fill-turn noRawLeg legOf legs (l .legs) (l .i) (x .leg) (omega (arith, full s, s .pre)) (omega (arith, l .inv .2, s .pre)) (e .leg) (l .inv .0),
+      any-turn noRawLeg legs n (omega (arith, full s, s .pre)) isBad (l .bad) (c .either .result) (l .i) (omega arith) b ∙ l .inv .1,
+      length-set (l .legs) (l .i) (x .leg) ∙ l .inv .2,
+      omega arith,
+    )
 
--- src/lib.rt:50:1
 returns : tie.Need-returns Inv-loop μ-loop
-returns c = ?
+returns c =
+    let s = c .before .before in
+    let l = c .before .loop in
+    let n = s .args .t1 .len in
+    let e : l .i ≡ n = omega arith in
+    record {
+      legs = rw e at (l .inv .0);
+      len = refl;
+      bad = sym (any-end noRawLeg (s .args .t1 .legs) n (omega (arith, full s, s .pre)) isBad (l .bad) (l .i) (omega arith)) ∙ l .inv .1;
+    }
 
 pub legs-of-spec : {M : Type 1} → statement M
 legs-of-spec =
@@ -67,14 +78,14 @@ legs-of-spec =
     Inv-loop
     μ-loop
     loop-holds
-    mul-raw
+    (λ c. search needs)
     element-copy-out-raw
-    leg-of-requires
-    mul-legs
+    (λ c κs. tt)
+    (λ c. search needs)
     array-set-from-legs
-    negated-requires
-    either-requires
-    add-i
-    loop-less
+    (λ c κs. tt)
+    (λ c κs. tt)
+    (λ c. search needs)
+    (λ c. search needs)
     loop-again
     returns)

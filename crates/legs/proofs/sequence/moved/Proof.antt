@@ -7,7 +7,7 @@ use native.Mathlib.Omega.{arith}
 use lib.ListN.{length, take, drop, getD, set, length-map, length-set}
 use Rattle.rules.specs.declared.Leg.{Leg}
 use Rattle.walk.specs.Tags.{noLeg}
-use Rattle.pairing.proofs.Filling.{fill-turn}
+use Rattle.loops.proofs.Filling.{fill-turn}
 use Rattle.legs.proofs.sequence.moved.Statement.{statement}
 use Rattle.legs.proofs.sequence.moved.Tie as tie
 

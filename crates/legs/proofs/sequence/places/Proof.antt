@@ -1,4 +1,3 @@
-use Rattle.pairing.proofs.Filling.{places-turn}
 -- The keys of the legs passed, each with its place.
 use borrow.Author.Needs.{needs}
 use mathlib.Core.Path.{_≡_, refl, sym, ap, _∙_}
@@ -10,6 +9,7 @@ use Rattle.rules.specs.declared.Leg.{Leg}
 use Rattle.walk.specs.Tags.{noLeg}
 use Rattle.rules.specs.Pairing.{strikeKey}
 use Rattle.sorting.specs.Keys.{sortKeys, tagged}
+use Rattle.tags.proofs.Filling.{places-turn}
 use Rattle.legs.proofs.sequence.places.Statement.{statement}
 use Rattle.legs.proofs.sequence.places.Tie as tie
 

@@ -7,7 +7,7 @@ use lib.ListN.{length, take, length-map, length-set}
 use lib.Seq.{length-take-le}
 use Rattle.rules.specs.Order.{divided}
 use Rattle.walk.specs.Tags.{noLeg}
-use Rattle.pairing.proofs.Filling.{fill-turn}
+use Rattle.loops.proofs.Filling.{fill-turn}
 use Rattle.legs.proofs.Divisor.{divisor-positive, units-are}
 use borrow.Author.Needs.{needs}
 use Rattle.legs.proofs.units.units.Statement.{statement}

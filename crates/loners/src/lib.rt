@@ -1,0 +1,55 @@
+// The class that pairs and loners give.
+use choice::both;
+use choice::either;
+use choice::negated;
+use choice::pick;
+use walk::Tally;
+ghost use mathlib.Core.Path.{_≡_};
+ghost use Prim.Native.Nat.{_≤_};
+ghost use lib.ListN.{length};
+ghost use Rattle.loners.specs.Tallies.{aloneAt, tallyClass, together, Loners};
+
+// The tally after a leg that is left with some contracts, or none.
+fn lone(t: Tally, tag: u64, left: u64) -> Tally
+    ensures { λ r. ⌜ r ≡ aloneAt t tag left ⌝ }
+{
+    let open = negated(left == 0);
+    let bought = tag % 2 == 1;
+    Tally {
+        pairs: t.pairs,
+        debit: either(t.debit, both(open, bought)),
+        credit: either(t.credit, both(open, negated(bought))),
+    }
+}
+
+// The tally with the loners among the first n legs.
+pub fn loners(t: Tally, tags: &[u64; 16], left: &[u64; 16], n: usize) -> Tally
+    requires { ⌜ (length (now tags) ≡ 16) × (length (now left) ≡ 16) × (n ≤ 16) ⌝ }
+    ensures { λ r. ⌜ Loners t (now (tags .entry)) (now (left .entry)) n r ⌝ }
+{
+    let mut r = t;
+    let mut i = 0;
+    while i < n {
+        r = lone(r, tags[i], left[i]);
+        i += 1;
+    }
+    r
+}
+
+// Two tallies as one.
+pub fn joined(a: Tally, b: Tally) -> Tally
+    requires { ⌜ (a .pairs ≤ 1000) × (b .pairs ≤ 1000) ⌝ }
+    ensures { λ r. ⌜ r ≡ together a b ⌝ }
+{
+    Tally {
+        pairs: a.pairs + b.pairs,
+        debit: either(a.debit, b.debit),
+        credit: either(a.credit, b.credit),
+    }
+}
+
+pub fn class_of(t: Tally) -> u64
+    ensures { λ r. ⌜ r ≡ tallyClass t ⌝ }
+{
+    pick(t.credit, pick(t.debit, 0, 2), 1)
+}

@@ -1,0 +1,2 @@
+// The order check.
+pub mod judge;

@@ -1,0 +1,101 @@
+// The symbol writer.
+use numeral::digits::byte_of;
+use roots::is_root;
+use roots::root_bytes;
+use rules::SymbolParts;
+use symbol::reader::in_limits;
+ghost use mathlib.Core.Path.{_≡_};
+ghost use mathlib.Core.List.{_++_};
+ghost use Prim.Native.Nat.{_≤_};
+ghost use lib.ListN.{length, drop};
+ghost use Rattle.rules.specs.Symbol.{inLayout, symbolOf, writeSymbol};
+ghost use Rattle.writer.specs.Writer.{Fits, Handed};
+
+fn in_layout(p: SymbolParts) -> bool
+    ensures { λ r. ⌜ r ≡ inLayout p ⌝ }
+{
+    // Above this the number is not that of six bytes.
+    if 281474976710656 <= p.root {
+        return false;
+    }
+    let b = root_bytes(p.root);
+    choice::both(is_root(b[0], b[1], b[2], b[3], b[4], b[5]), in_limits(p))
+}
+
+fn symbol_of(p: SymbolParts) -> [u8; 21]
+    requires { ⌜ Fits p ⌝ }
+    ensures { λ r. ⌜ r ≡ symbolOf p ⌝ }
+{
+    let b = root_bytes(p.root);
+    let year = p.year - 2000;
+    let k0 = p.strike.0;
+    let k1 = k0 % 10000000;
+    let k2 = k1 % 1000000;
+    let k3 = k2 % 100000;
+    let k4 = k3 % 10000;
+    let k5 = k4 % 1000;
+    let k6 = k5 % 100;
+    [
+        b[0],
+        b[1],
+        b[2],
+        b[3],
+        b[4],
+        b[5],
+        byte_of(year / 10),
+        byte_of(year % 10),
+        byte_of(p.month / 10),
+        byte_of(p.month % 10),
+        byte_of(p.day / 10),
+        byte_of(p.day % 10),
+        p.right as u8,
+        byte_of(k0 / 10000000),
+        byte_of(k1 / 1000000),
+        byte_of(k2 / 100000),
+        byte_of(k3 / 10000),
+        byte_of(k4 / 1000),
+        byte_of(k5 / 100),
+        byte_of(k6 / 10),
+        byte_of(k6 % 10),
+    ]
+}
+
+// The buffer's first 21 bytes become the symbol; the others stay.
+fn place(symbol: &[u8; 21], buffer: &mut [u8])
+    requires { ⌜ (length (now symbol) ≡ 21) × (21 ≤ length (now buffer)) ⌝ }
+    ensures { λ _. ⌜ now (buffer .exit) ≡ now (symbol .entry) ++ drop 21 (now (buffer .entry)) ⌝ }
+{
+    let mut i = 0;
+    while i < 21 {
+        buffer[i] = symbol[i];
+        i += 1;
+    }
+}
+
+// Writes the symbol into the buffer, and gives the number: all that the buffer holds afterwards is in the contract.
+pub fn fill(p: SymbolParts, buffer: &mut [u8]) -> u64
+    ensures { λ r. ⌜ r ≡ writeSymbol p (now (buffer .entry)) .number ⌝ }
+    ensures { λ _. ⌜ now (buffer .exit) ≡ writeSymbol p (now (buffer .entry)) .buffer ⌝ }
+{
+    if buffer.len() < 21 {
+        return 2;
+    }
+    if in_layout(p) {
+        let symbol = symbol_of(p);
+        place(&symbol, buffer);
+        return 0;
+    }
+    4
+}
+
+// The symbol writer: the leading part of the buffer that holds the symbol, or an empty one, and the number.
+pub fn write<'a, 'b>(p: SymbolParts, buffer: &'a mut [u8], number: &'b mut u64) -> &'a mut [u8]
+    ensures { λ r. ⌜ Handed p (buffer .entry) r (now (number .exit)) ⌝ }
+{
+    let n = fill(p, buffer);
+    *number = n;
+    if n == 0 {
+        return &mut buffer[..21];
+    }
+    &mut buffer[..0]
+}
