@@ -13,7 +13,7 @@ use shape::maximum_of;
 ghost use mathlib.Core.Path.{_≡_};
 ghost use mathlib.Core.List.{List};
 ghost use mathlib.Core.Bool.{true};
-ghost use Prim.Native.Nat.{ℕ, _≤_, min, max};
+ghost use Prim.Native.Nat.{_≤_, min, max};
 ghost use Rattle.rules.specs.declared.Leg.{Leg};
 ghost use Rattle.rules.specs.declared.Market.{Market};
 ghost use Rattle.rules.specs.Lists.{sameBool, all, All};

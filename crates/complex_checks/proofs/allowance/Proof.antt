@@ -1,6 +1,4 @@
 -- The product fits by M's bound and the percentage's, and A is at most the preset maximum.
-use mathlib.Core.Path.{_≡_}
-use Prim.Native.Nat.{_≤_}
 use native.Mathlib.Omega.{arith}
 use Rattle.rules.specs.Checks.{allowance}
 use Rattle.rules.proofs.Bounds.{settings-bounds}

@@ -1,6 +1,4 @@
 -- A shape with a maximum, which the strikes bound.
-use mathlib.Core.Path.{_≡_}
-use Prim.Native.Nat.{_≤_}
 use native.Mathlib.Omega.{arith}
 use Rattle.rules.specs.Order.{legsIn}
 use Rattle.complex_checks.proofs.Laws.{maximum-bound, maximum-tested, maximum-untested}

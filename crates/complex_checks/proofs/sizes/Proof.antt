@@ -1,9 +1,9 @@
 -- The sum so far, with the sizes that are still to be added, is the whole sum, which is small.
 use borrow.Author.Needs.{needs}
-use mathlib.Core.Path.{_≡_, refl, sym, _∙_}
-use Prim.Native.Nat.{_+_, _≤_, _-_, _<_}
+use mathlib.Core.Path.{_≡_, sym, _∙_}
+use Prim.Native.Nat.{_+_, _≤_, _-_}
 use native.Mathlib.Omega.{arith}
-use lib.ListN.{length, take, drop, getD, length-map}
+use lib.ListN.{length, take, drop, length-map}
 use lib.Seq.{length-take-le}
 use Rattle.rules.specs.Checks.{sizes}
 use Rattle.shape.proofs.Laws.{noLeg}

@@ -1,5 +1,4 @@
 -- By side; a sell by the reference less the distance.
-use native.Mathlib.Omega.{arith}
 use borrow.Author.Needs.{needs}
 use Rattle.simple_checks.proofs.Laws.{beyond-buy, beyond-none, beyond-sell}
 use Rattle.simple_checks.proofs.is_beyond.Statement.{statement}

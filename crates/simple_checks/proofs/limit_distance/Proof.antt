@@ -1,6 +1,4 @@
 -- Ticks and tick are within the settings' limits.
-use mathlib.Core.Path.{_≡_}
-use Prim.Native.Nat.{_≤_}
 use Rattle.rules.specs.Market.{acceptableTicks, tickAt, limitDistance}
 use Rattle.rules.proofs.Bounds.{acceptable-bound, tick-bound}
 use Rattle.simple_checks.proofs.Laws.{distance-bound}
