@@ -29,7 +29,7 @@ decode : (k : ℕ) (s : Series) (c : Bool) → s .call ≡ c → eqb (k / 100000
 unfolding seriesAt
 decode k s c f p e q = let g = p ∙ sym f in λ i. record { call = g i; expiry = e i; strike = record { 0 = q i } }
 
-series-again : (s : Series) → s .expiry ≤ 99999999 → s .strike .0 ≤ 99999999 → (seriesAt true (expiryKey s) ≡ s) × (expiryKey s < 20000000000000000)
+pub series-again : (s : Series) → s .expiry ≤ 99999999 → s .strike .0 ≤ 99999999 → (seriesAt true (expiryKey s) ≡ s) × (expiryKey s < 20000000000000000)
 series-again s he hk = go (s .call) refl
   where
     go : (c : Bool) → s .call ≡ c → (seriesAt true (expiryKey s) ≡ s) × (expiryKey s < 20000000000000000)

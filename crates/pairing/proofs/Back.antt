@@ -22,7 +22,7 @@ decode k s c f p e q =
     let g = p ∙ sym f in
     λ i. record { call = g i; expiry = e i; strike = record { 0 = t i } }
 
-back : (s : Series) → InRange s → seriesAt false (strikeKey s) ≡ s
+pub back : (s : Series) → InRange s → seriesAt false (strikeKey s) ≡ s
 back s r = go (s .call) refl
   where
     go : (c : Bool) → s .call ≡ c → seriesAt false (strikeKey s) ≡ s

@@ -65,7 +65,7 @@ same-turn true false = refl
 same-turn false true = refl
 same-turn false false = refl
 
-same-series-turn : (a b : Leg) → isSameSeries a b ≡ isSameSeries b a
+pub same-series-turn : (a b : Leg) → isSameSeries a b ≡ isSameSeries b a
 same-series-turn a b =
     cc (
       eqb-turn (a .root) (b .root),
@@ -73,6 +73,9 @@ same-series-turn a b =
       eqb-turn (a .series .expiry) (b .series .expiry),
       eqb-turn (a .series .strike .0) (b .series .strike .0),
     )
+
+pub other-root-turn : (a b : Leg) → isOtherRoot a b ≡ isOtherRoot b a
+other-root-turn a b = ap not (eqb-turn (a .root) (b .root))
 
 module _ (st : Settings) (m : Market) (t : Terms) where
   bad-price-perm : {xs ys : List Leg} → Perm xs ys → isBadPrice t xs ≡ isBadPrice t ys
@@ -86,7 +89,7 @@ module _ (st : Settings) (m : Market) (t : Terms) where
         any-perm (λ r. not (isSymbol (r .symbol))) p,
         any-perm isBadCount p,
         somePair-perm isSameSeries same-series-turn (legs-perm p),
-        somePair-perm isOtherRoot (λ a b. ap not (eqb-turn (a .root) (b .root))) (legs-perm p),
+        somePair-perm isOtherRoot other-root-turn (legs-perm p),
         bad-price-perm (legs-perm p),
       )
 

@@ -1,0 +1,34 @@
+// Class, shape and pairings of an order's legs.
+use legs::sequence::by_strike;
+use legs::units::units;
+use pairing::both_walks;
+use rules::Legs;
+use shape::class_of;
+use shape::shape_of;
+ghost use Rattle.classify.specs.Legs.{Valid, IsClassified};
+
+pub struct Classified {
+    // The legs with their unit counts, in the first walk's sequence.
+    pub units: Legs,
+    pub class: u64,
+    pub shape: u64,
+    pub pairings: u64,
+}
+
+// The legs may come in any sequence: they are sorted here.
+pub fn classify(l: Legs, european: bool) -> Classified
+    requires { ⌜ Valid l ⌝ }
+    ensures { λ r. ⌜ IsClassified european l r ⌝ }
+{
+    let sorted = by_strike(l);
+    let us = units(sorted);
+    let paired = both_walks(sorted, european);
+    let class = class_of(us, paired.class);
+    let shape = shape_of(us);
+    Classified {
+        units: us,
+        class: class,
+        shape: shape,
+        pairings: paired.pairings,
+    }
+}
