@@ -1,7 +1,7 @@
 -- The definitions as the code computes them.
 use mathlib.Core.Path.{_≡_, refl, sym, ap, _∙_}
 use mathlib.Core.List.{List, [], _∷_, _++_}
-use mathlib.Core.Bool.{Bool, true, false, cond, not, _&&_, Bool·beq}
+use mathlib.Core.Bool.{Bool, true, false, cond, not, _&&_}
 use Prim.Native.Nat.{ℕ, zero, suc, _+_, _-_, _*_, _≤_, _<_, min, max}
 use native.Mathlib.Omega.{arith}
 use lib.Dec.{eqb, leb, ltb}
@@ -11,18 +11,12 @@ use borrow.Author.Tests.{eqb-true, eqb-false, leb-true, leb-false, eq-eqb, ne-eq
 use Rattle.rules.specs.declared.Leg.{Leg}
 use Rattle.rules.specs.declared.Legs.{Legs}
 use Rattle.rules.specs.declared.Series.{Series}
-use Rattle.rules.specs.Lists.{sameBool, every}
-use Rattle.rules.specs.Pairing.{Walked, oneExpiry}
+use Rattle.rules.specs.Lists.{every}
+use Rattle.rules.specs.Pairing.{oneExpiry}
 use Rattle.rules.specs.Order.{legsIn}
-use Rattle.rules.specs.Class.{strikeOf, isOf, opposite, isVertical, between, isButterfly, isTrueButterfly, hasOwnClass, shapeOf, classOf, pairClass}
+use Rattle.rules.specs.Class.{strikeOf, isOf, opposite, isVertical, between, isButterfly, isTrueButterfly, hasOwnClass, shapeOf, classWith}
 use Rattle.rules.specs.Checks.{maximumOf}
 use Rattle.shape.specs.Box.{boxSeries, boxSides}
-
-pub same : (a b : Bool) → Bool·beq a b ≡ sameBool a b
-same true true = refl
-same true false = refl
-same false true = refl
-same false false = refl
 
 every-append : (xs ys : List Bool) → every xs && every ys ≡ every (xs ++ ys)
 unfolding every
@@ -147,13 +141,13 @@ module _ (a b c d e : Leg) (r : List Leg) where
   shape-none (suc (suc (suc (suc zero)))) f g h = absurd (h refl)
   shape-none (suc (suc (suc (suc (suc n))))) f g h = refl
 
-  class-pairs : (n : ℕ) (w : Walked) → (n ≡ 3 → ⊥) → pairClass w ≡ classOf (take n these) w
-  unfolding classOf
-  class-pairs zero w h = refl
-  class-pairs (suc zero) w h = refl
-  class-pairs (suc (suc zero)) w h = refl
-  class-pairs (suc (suc (suc zero))) w h = absurd (h refl)
-  class-pairs (suc (suc (suc (suc n)))) w h = refl
+  class-pairs : (n pairs : ℕ) → (n ≡ 3 → ⊥) → pairs ≡ classWith (take n these) pairs
+  unfolding classWith
+  class-pairs zero pairs h = refl
+  class-pairs (suc zero) pairs h = refl
+  class-pairs (suc (suc zero)) pairs h = refl
+  class-pairs (suc (suc (suc zero))) pairs h = absurd (h refl)
+  class-pairs (suc (suc (suc (suc n)))) pairs h = refl
 
   maximum-these : (n : ℕ)
       → cond (ltb n 2) 0 (cond (eqb n 2) ((strikeOf a - strikeOf b) + (strikeOf b - strikeOf a)) (cond (eqb n 3) (strikeOf b - min (strikeOf a) (strikeOf c)) (strikeOf c - strikeOf d)))
@@ -189,8 +183,8 @@ module _ (us : Legs) (long : length (us .legs) ≡ 16) where
   pub shape-other : (us .len ≡ 2 → ⊥) → (us .len ≡ 3 → ⊥) → (us .len ≡ 4 → ⊥) → 0 ≡ shapeOf (legsIn us)
   shape-other f g h = shown shapeOf (us .len) refl (shape-none _ _ _ _ _ _ (us .len) f g h)
 
-  pub class-other : (w : Walked) → (us .len ≡ 3 → ⊥) → pairClass w ≡ classOf (legsIn us) w
-  class-other w h = shown (λ ls. classOf ls w) (us .len) refl (class-pairs _ _ _ _ _ _ (us .len) w h)
+  pub class-other : (pairs : ℕ) → (us .len ≡ 3 → ⊥) → pairs ≡ classWith (legsIn us) pairs
+  class-other pairs h = shown (λ ls. classWith ls pairs) (us .len) refl (class-pairs _ _ _ _ _ _ (us .len) pairs h)
 
   pub maximum : {x y z p q r : ℕ}
       → x ≡ (strikeOf (at 0) - strikeOf (at 1)) + (strikeOf (at 1) - strikeOf (at 0))

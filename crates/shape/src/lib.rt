@@ -12,9 +12,9 @@ ghost use mathlib.Core.Path.{_≡_};
 ghost use mathlib.Core.List.{[], _∷_};
 ghost use Prim.Native.Nat.{_+_, _-_, min, max};
 ghost use Rattle.rules.specs.Lists.{every};
-ghost use Rattle.rules.specs.Pairing.{Walked, oneExpiry};
+ghost use Rattle.rules.specs.Pairing.{oneExpiry};
 ghost use Rattle.rules.specs.Order.{legsIn};
-ghost use Rattle.rules.specs.Class.{opposite, isVertical, between, isButterfly, isTrueButterfly, isBox, shapeOf, hasOwnClass, pairClass, classOf};
+ghost use Rattle.rules.specs.Class.{opposite, isVertical, between, isButterfly, isTrueButterfly, isBox, shapeOf, hasOwnClass, classWith};
 ghost use Rattle.rules.specs.Checks.{maximumOf};
 ghost use Rattle.shape.specs.Box.{boxSeries, boxSides};
 
@@ -200,14 +200,14 @@ pub fn shape_of(us: Legs) -> u64
 
 // A butterfly with a class of its own is a debit if the middle is sold, a credit if it is bought.
 fn class_of_three(a: Leg, m: Leg, b: Leg, pairs: u64) -> u64
-    ensures { λ r. ⌜ ((w : Walked) → pairClass w ≡ pairs → r ≡ classOf (a ∷ m ∷ b ∷ []) w) ⌝ }
+    ensures { λ r. ⌜ r ≡ classWith (a ∷ m ∷ b ∷ []) pairs ⌝ }
 {
     pick(has_own_class(a, m, b), pick(m.bought, 2, 1), pairs)
 }
 
 // The class of unit legs in the first walk's sequence. `pairs` is the class that the pairs and loners of a walk give.
 pub fn class_of(us: Legs, pairs: u64) -> u64
-    ensures { λ r. ⌜ ((w : Walked) → pairClass w ≡ pairs → r ≡ classOf (legsIn us) w) ⌝ }
+    ensures { λ r. ⌜ r ≡ classWith (legsIn us) pairs ⌝ }
 {
     let n = us.len;
     let a = us.legs[0];

@@ -1,6 +1,6 @@
 use mathlib.Core.Path.{_≡_, sym, _∙_}
 use lib.ListN.{length, length-map}
-use Rattle.rules.specs.Class.{classOf}
+use Rattle.rules.specs.Class.{classWith}
 use Rattle.shape.proofs.Laws.{shown, class-other}
 use borrow.Author.Needs.{needs}
 use Rattle.shape.proofs.class_of.Statement.{statement}
@@ -10,10 +10,10 @@ full : (c : tie.Start) → length (c .args .t1 .legs) ≡ 16
 full c = sym (length-map (c .args .t1 .legs) _) ∙ c .good .0 .1 .1 .0 .1 .0 .1
 
 returns : tie.Need-returns
-returns c = λ w e. let s = c .before .before .before .before .before in shown _ (full s) (λ ls. classOf ls w) 3 (c .before .if1 .taken) (c .class-of-three .ensures w e)
+returns c = let s = c .before .before .before .before .before in shown _ (full s) (λ ls. classWith ls (s .args .pairs)) 3 (c .before .if1 .taken) (c .class-of-three .ensures)
 
 returns-2 : tie.Need-returns-2
-returns-2 c = λ w e. let s = c .before .before .before .before in sym e ∙ class-other (s .args .t1) (full s) w (c .if1 .left)
+returns-2 c = let s = c .before .before .before .before in class-other (s .args .t1) (full s) (s .args .pairs) (c .if1 .left)
 
 pub class-of-spec : {M : Type 1} → statement M
 class-of-spec =

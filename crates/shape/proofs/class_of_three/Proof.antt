@@ -1,12 +1,10 @@
-use mathlib.Core.Path.{sym, _∙_}
-use mathlib.Core.Bool.{cond}
-use Rattle.rules.specs.Class.{classOf}
+use Rattle.rules.specs.Class.{classWith}
 use Rattle.shape.proofs.class_of_three.Statement.{statement}
 use Rattle.shape.proofs.class_of_three.Tie as tie
 
 returns : tie.Need-returns
-unfolding classOf
-returns c = λ w e. c .pick2 .ensures ∙ (λ i. cond (c .before .before .has-own-class .ensures i) (c .before .pick .ensures i) (sym e i))
+unfolding classWith
+returns c = rw (← c .before .before .has-own-class .ensures, ← c .before .pick .ensures) (c .pick2 .ensures)
 
 pub class-of-three-spec : {M : Type 1} → statement M
 class-of-three-spec =
