@@ -1,10 +1,11 @@
 use mathlib.Core.Path.{_≡_, sym, _∙_}
 use lib.ListN.{length, length-map}
 use Rattle.rules.specs.Class.{classWith}
-use Rattle.shape.proofs.Laws.{shown, class-other}
+use Rattle.strikes.proofs.Listed.{shown}
+use Rattle.class.proofs.Laws.{class-other}
 use borrow.Author.Needs.{needs}
-use Rattle.shape.proofs.class_of.Statement.{statement}
-use Rattle.shape.proofs.class_of.Tie as tie
+use Rattle.class.proofs.class_of.Statement.{statement}
+use Rattle.class.proofs.class_of.Tie as tie
 
 full : (c : tie.Start) → length (c .args .t1 .legs) ≡ 16
 full c = sym (length-map (c .args .t1 .legs) _) ∙ c .good .0 .1 .1 .0 .1 .0 .1

@@ -1,6 +1,6 @@
 use Rattle.rules.specs.Class.{classWith}
-use Rattle.shape.proofs.class_of_three.Statement.{statement}
-use Rattle.shape.proofs.class_of_three.Tie as tie
+use Rattle.class.proofs.class_of_three.Statement.{statement}
+use Rattle.class.proofs.class_of_three.Tie as tie
 
 returns : tie.Need-returns
 unfolding classWith
