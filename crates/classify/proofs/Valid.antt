@@ -12,7 +12,7 @@ use Rattle.rules.specs.declared.Series.{Series}
 use Rattle.rules.specs.declared.Leg.{Leg}
 use Rattle.rules.specs.declared.Legs.{Legs}
 use Rattle.rules.specs.Lists.{All, Perm, sameBool, any, somePair}
-use Rattle.rules.specs.Order.{legsIn}
+use Rattle.rules.specs.Order.{legsIn, noLeg}
 use Rattle.rules.specs.Pairing.{strikeKey, expiryKey, byStrike}
 use Rattle.rules.specs.Numbers.{isSameSeries, isOtherRoot}
 use Rattle.rules.proofs.Tests.{or-neither}
@@ -20,7 +20,7 @@ use Rattle.rules.proofs.Sorting.{all-perm, perm-sym, somePair-perm}
 use Rattle.rules.proofs.Sequence.{by-strike-is-perm, same-series-turn, other-root-turn}
 use Rattle.sorting.specs.Keys.{EachTwo}
 use Rattle.sorting.proofs.Laws.{each-two-with, each-two-fail}
-use Rattle.walk.specs.Tags.{seriesAt, noLeg}
+use Rattle.walk.specs.Tags.{seriesAt}
 use Rattle.tags.specs.Legs.{InRange, AllInRange}
 use Rattle.pairing.specs.Both.{Walkable}
 use Rattle.pairing.proofs.Back.{back}

@@ -1,9 +1,9 @@
 // Class, shape and pairings of an order's legs.
+use class::class_of;
 use legs::sequence::by_strike;
 use legs::units::units;
 use pairing::both_walks;
 use rules::Legs;
-use shape::class_of;
 use shape::shape_of;
 ghost use Rattle.classify.specs.Legs.{Valid, IsClassified};
 

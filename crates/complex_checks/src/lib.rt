@@ -9,7 +9,7 @@ use rules::Legs;
 use rules::Price;
 use rules::Settings;
 use rules::Terms;
-use shape::maximum_of;
+use strikes::maximum_of;
 ghost use mathlib.Core.Path.{_≡_};
 ghost use mathlib.Core.List.{List};
 ghost use mathlib.Core.Bool.{true};

@@ -7,9 +7,8 @@ use native.Mathlib.Omega.{arith}
 use lib.ListN.{length, take, drop, getD}
 use Rattle.rules.specs.declared.Leg.{Leg}
 use Rattle.rules.specs.Lists.{All}
-use Rattle.rules.specs.Order.{gcd, commonDivisor, divided, units}
+use Rattle.rules.specs.Order.{gcd, commonDivisor, divided, units, noLeg}
 use Rattle.rules.proofs.Divisor.{gcd-divides}
-use Rattle.walk.specs.Tags.{noLeg}
 use Rattle.walk.proofs.Walking.{step, end}
 
 pub divisor-of-none : commonDivisor [] ≡ 0

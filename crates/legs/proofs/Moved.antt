@@ -8,10 +8,10 @@ use lib.Seq.{length-take-le, getD-take}
 use Rattle.rules.specs.declared.Leg.{Leg}
 use Rattle.rules.specs.Lists.{All}
 use Rattle.rules.specs.Pairing.{strikeKey, byStrike}
+use Rattle.rules.specs.Order.{noLeg}
 use Rattle.rules.proofs.Sorting.{all-perm, perm-sym}
 use Rattle.sorting.specs.Keys.{sortKeys, tagged, EachTwo}
 use Rattle.sorting.proofs.Laws.{sort-same, by-strike}
-use Rattle.walk.specs.Tags.{noLeg}
 use Rattle.tags.proofs.Places.{places-small, same-map}
 
 module _ (legs : List Leg) (n : ℕ) (full : length legs ≡ 16) (fits : n ≤ 16) (places : List ℕ)

@@ -5,10 +5,9 @@ ghost use mathlib.Core.Path.{_≡_};
 ghost use mathlib.Core.List.{map};
 ghost use Prim.Native.Nat.{_≤_, _%_};
 ghost use lib.ListN.{length, take, getD};
-ghost use Rattle.rules.specs.Order.{legsIn};
+ghost use Rattle.rules.specs.Order.{legsIn, noLeg};
 ghost use Rattle.rules.specs.Pairing.{strikeKey, byStrike};
 ghost use Rattle.sorting.specs.Keys.{sortKeys, tagged, EachTwo};
-ghost use Rattle.walk.specs.Tags.{noLeg};
 ghost use Rattle.tags.specs.Legs.{AllInRange};
 
 // The legs' places in the sequence: in each number the key, and in its lowest four bits the place.

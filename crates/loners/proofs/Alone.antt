@@ -6,8 +6,9 @@ use Prim.Native.Nat.{ℕ, _+_, _<_, _≤_}
 use native.Mathlib.Omega.{arith}
 use lib.ListN.{length, take, drop, getD}
 use Rattle.rules.specs.declared.Leg.{Leg}
+use Rattle.rules.specs.Order.{noLeg}
 use Rattle.walk.specs.declared.Tally.{Tally}
-use Rattle.walk.specs.Tags.{legAt, legsFrom, noLeg}
+use Rattle.walk.specs.Tags.{legAt, legsFrom}
 use Rattle.walk.proofs.Zip.{zip-length, zip-at}
 use Rattle.walk.proofs.Walking.{step, end}
 use Rattle.loners.specs.Tallies.{aloneWith, aloneAt, allAlone}

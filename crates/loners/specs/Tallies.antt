@@ -26,8 +26,8 @@ pub record Loners (t : Tally) (tags left : List ℕ) (n : ℕ) (r : Tally) : Typ
   pub legs : (root : ℕ) (second : Bool) → r ≡ allAlone t (take n (legsFrom root second tags left))
   pub pairs : r .pairs ≡ t .pairs
 
-abbrev pub together : Tally → Tally → Tally
-together a b = record { pairs = a .pairs + b .pairs; debit = a .debit || b .debit; credit = a .credit || b .credit }
+abbrev pub joinedTallies : Tally → Tally → Tally
+joinedTallies a b = record { pairs = a .pairs + b .pairs; debit = a .debit || b .debit; credit = a .credit || b .credit }
 
 -- 1 debit, 2 credit, 0 undetermined
 abbrev pub tallyClass : Tally → ℕ

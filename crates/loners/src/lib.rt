@@ -7,7 +7,7 @@ use walk::Tally;
 ghost use mathlib.Core.Path.{_≡_};
 ghost use Prim.Native.Nat.{_≤_};
 ghost use lib.ListN.{length};
-ghost use Rattle.loners.specs.Tallies.{aloneAt, tallyClass, together, Loners};
+ghost use Rattle.loners.specs.Tallies.{aloneAt, tallyClass, joinedTallies, Loners};
 
 // The tally after a leg that is left with some contracts, or none.
 fn lone(t: Tally, tag: u64, left: u64) -> Tally
@@ -39,7 +39,7 @@ pub fn loners(t: Tally, tags: &[u64; 16], left: &[u64; 16], n: usize) -> Tally
 // Two tallies as one.
 pub fn joined(a: Tally, b: Tally) -> Tally
     requires { ⌜ (a .pairs ≤ 1000) × (b .pairs ≤ 1000) ⌝ }
-    ensures { λ r. ⌜ r ≡ together a b ⌝ }
+    ensures { λ r. ⌜ r ≡ joinedTallies a b ⌝ }
 {
     Tally {
         pairs: a.pairs + b.pairs,

@@ -12,10 +12,11 @@ use Rattle.rules.specs.declared.Series.{Series}
 use Rattle.rules.specs.declared.Leg.{Leg}
 use Rattle.rules.specs.Lists.{All}
 use Rattle.rules.specs.Pairing.{digit, packed, expiryKey, byExpiry}
+use Rattle.rules.specs.Order.{noLeg}
 use Rattle.rules.proofs.Sorting.{all-perm, perm-sym}
 use Rattle.sorting.specs.Keys.{sortKeys, tagged, EachTwo}
 use Rattle.sorting.proofs.Laws.{sort-same, by-expiry, each-two-map, tagged-says}
-use Rattle.walk.specs.Tags.{seriesAt, legAt, legsFrom, Tagged, noLeg}
+use Rattle.walk.specs.Tags.{seriesAt, legAt, legsFrom, Tagged}
 use Rattle.walk.proofs.Zip.{zip-length, zip-at}
 use Rattle.again.specs.Second.{keyAgain, secondTag, Moved}
 use Rattle.tags.proofs.Places.{places-small, same-map}

@@ -9,16 +9,16 @@ use lib.Seq.{length-take-le}
 use Rattle.rules.specs.declared.Leg.{Leg}
 use Rattle.rules.specs.declared.Legs.{Legs}
 use Rattle.rules.specs.Lists.{All}
-use Rattle.rules.specs.Order.{legsIn}
+use Rattle.rules.specs.Order.{legsIn, noLeg}
 use Rattle.rules.specs.Pairing.{Walked, walk, oneExpiry, oneStrike, expiryKey, byExpiry, bothWalks}
 use Rattle.rules.specs.Class.{pairClass}
 use Rattle.rules.proofs.Pairings.{pairing-fewer}
 use Rattle.sorting.specs.Keys.{sortKeys, tagged, EachTwo}
 use Rattle.walk.specs.declared.Tally.{Tally}
-use Rattle.walk.specs.Tags.{legAt, legsFrom, Tagged, noLeg, none, noted, Walks}
+use Rattle.walk.specs.Tags.{legAt, legsFrom, Tagged, none, noted, Walks}
 use Rattle.tags.specs.Legs.{InRange, tagOf}
 use Rattle.again.specs.Second.{keyAgain, secondTag, Moved}
-use Rattle.loners.specs.Tallies.{allAlone, together, tallyClass, Loners}
+use Rattle.loners.specs.Tallies.{allAlone, joinedTallies, tallyClass, Loners}
 use Rattle.pairing.specs.Both.{Walkable, BothWalks}
 use Rattle.pairing.proofs.Back.{legs-back}
 use Rattle.pairing.proofs.Again.{zip-take, keys-are, moved-legs}
@@ -115,9 +115,9 @@ module _ (l : Legs) (w : Walkable l) (tags sizes left : List ℕ) (a : Tally)
         let f = rw twice at (pairing-fewer false (legsIn l)) in
         omega (arith, e, f, legs-few, length-append (first .pairs) (again .pairs))
 
-    pub two-walks : (t : Tally) (r : ℕ) → Loners (together a b) second after n t → r ≡ tallyClass t → BothWalks false l (t .pairs) r
+    pub two-walks : (t : Tally) (r : ℕ) → Loners (joinedTallies a b) second after n t → r ≡ tallyClass t → BothWalks false l (t .pairs) r
     two-walks t r lo k =
-        let e = ap₂ together first-tally second-tally ∙ sym (noted-both (first .pairs) (again .pairs)) in
+        let e = ap₂ joinedTallies first-tally second-tally ∙ sym (noted-both (first .pairs) (again .pairs)) in
         let f = wb .legs root ∙ ap (λ (ls : List Leg). walk oneStrike ls .legs) second-legs in
-        let d = tallied both (together a b) t r e (lo .legs root true ∙ ap (allAlone (together a b)) f) (lo .pairs) k in
+        let d = tallied both (joinedTallies a b) t r e (lo .legs root true ∙ ap (allAlone (joinedTallies a b)) f) (lo .pairs) k in
         record { pairings = d .0 ∙ ap (λ (v : Walked). length (v .pairs)) (sym twice); class = d .1 ∙ ap pairClass (sym twice) }

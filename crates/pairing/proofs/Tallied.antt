@@ -12,10 +12,10 @@ use Rattle.rules.specs.Pairing.{Pair, Walked, isDebit}
 use Rattle.rules.specs.Class.{allOf, pairClass}
 use Rattle.walk.specs.declared.Tally.{Tally}
 use Rattle.walk.specs.Tags.{oneMore, none, noted}
-use Rattle.loners.specs.Tallies.{aloneWith, allAlone, together, tallyClass}
+use Rattle.loners.specs.Tallies.{aloneWith, allAlone, joinedTallies, tallyClass}
 
 -- a further list of pairs is tallied by itself and joined
-pub noted-together : (t : Tally) (ms : List Pair) → noted t ms ≡ together t (noted none ms)
+pub noted-together : (t : Tally) (ms : List Pair) → noted t ms ≡ joinedTallies t (noted none ms)
 noted-together t [] = λ i. record { pairs = e i; debit = sym (or-false (t .debit)) i; credit = sym (or-false (t .credit)) i }
   where
     or-false : (b : Bool) → b || false ≡ b
@@ -24,7 +24,7 @@ noted-together t [] = λ i. record { pairs = e i; debit = sym (or-false (t .debi
 
     e : t .pairs ≡ t .pairs + 0
     e = omega arith
-noted-together t (m ∷ ms) = noted-together (oneMore t d) ms ∙ shift t d (noted none ms) ∙ sym (ap (together t) (noted-together (oneMore none d) ms))
+noted-together t (m ∷ ms) = noted-together (oneMore t d) ms ∙ shift t d (noted none ms) ∙ sym (ap (joinedTallies t) (noted-together (oneMore none d) ms))
   where
     d : Bool
     d = isDebit (m .buy) (m .sell)
@@ -33,7 +33,7 @@ noted-together t (m ∷ ms) = noted-together (oneMore t d) ms ∙ shift t d (not
     assoc true b c = refl
     assoc false b c = refl
 
-    shift : (a : Tally) (b : Bool) (c : Tally) → together (oneMore a b) c ≡ together a (together (oneMore none b) c)
+    shift : (a : Tally) (b : Bool) (c : Tally) → joinedTallies (oneMore a b) c ≡ joinedTallies a (joinedTallies (oneMore none b) c)
     shift a b c = λ i. record { pairs = f i; debit = assoc (a .debit) b (c .debit) i; credit = assoc (a .credit) (not b) (c .credit) i }
       where
         f : a .pairs + 1 + c .pairs ≡ a .pairs + (0 + 1 + c .pairs)
@@ -43,7 +43,7 @@ noted-append : (t : Tally) (ms ns : List Pair) → noted t (ms ++ ns) ≡ noted 
 noted-append t [] ns = refl
 noted-append t (m ∷ ms) ns = noted-append _ ms ns
 
-pub noted-both : (ms ns : List Pair) → noted none (ms ++ ns) ≡ together (noted none ms) (noted none ns)
+pub noted-both : (ms ns : List Pair) → noted none (ms ++ ns) ≡ joinedTallies (noted none ms) (noted none ns)
 noted-both ms ns = noted-append none ms ns ∙ noted-together (noted none ms) ns
 
 pub pairs-counted : (t : Tally) (ms : List Pair) → noted t ms .pairs ≡ t .pairs + length ms

@@ -6,11 +6,10 @@ use Prim.Native.Nat.{ℕ}
 use lib.ListN.{length, getD}
 use Rattle.rules.specs.declared.Legs.{Legs}
 use Rattle.rules.specs.Lists.{All}
-use Rattle.rules.specs.Order.{legsIn}
+use Rattle.rules.specs.Order.{legsIn, noLeg}
 use Rattle.rules.specs.Pairing.{expiryKey, bothWalks}
 use Rattle.rules.specs.Class.{pairClass}
 use Rattle.sorting.specs.Keys.{EachTwo}
-use Rattle.walk.specs.Tags.{noLeg}
 use Rattle.tags.specs.Legs.{AllInRange}
 
 -- Legs of a valid order: one root, and no series twice.

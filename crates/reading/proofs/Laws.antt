@@ -8,10 +8,6 @@ use Rattle.rules.specs.declared.Leg.{Leg}
 use Rattle.rules.specs.Symbol.{partsOf}
 use Rattle.rules.specs.Order.{seriesOf, legOf}
 
--- what an array holds where no leg is written
-abbrev pub noRawLeg : RawLeg
-noRawLeg = record { bought = false; size = 0; symbol = [] }
-
 pub leg-read : (raw : RawLeg) (p : SymbolParts) → p ≡ partsOf (raw .symbol)
     → record { root = p .root; series = seriesOf p; bought = raw .bought; size = raw .size } ≡ legOf raw
 unfolding legOf

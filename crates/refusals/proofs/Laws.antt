@@ -18,13 +18,6 @@ use Rattle.rules.specs.Numbers.{isOtherRoot, isBadPrice}
 use Rattle.rules.proofs.Tests.{or-neither}
 use Rattle.loops.proofs.Finding.{or-false, and-true}
 
--- what an array holds where no leg is written
-abbrev pub noLeg : Leg
-noLeg = record { root = 0; series = record { call = false; expiry = 0; strike = record { 0 = 0 } }; bought = false; size = 0 }
-
-abbrev pub noRawLeg : RawLeg
-noRawLeg = record { bought = false; size = 0; symbol = [] }
-
 -- ---- roots: where two differ, one differs from the first
 
 one-root : (x : Leg) (ls : List Leg) → any (isOtherRoot x) ls ≡ false → somePair isOtherRoot ls ≡ false

@@ -42,9 +42,8 @@ pub fn some_bad_count(o: Order) -> bool
 fn same_series(a: Leg, b: Leg) -> bool
     ensures { λ r. ⌜ r ≡ isSameSeries a b ⌝ }
 {
-    let kind = choose(a.series.call, b.series.call, negated(b.series.call));
     let dated = both(
-        both(a.root == b.root, kind),
+        both(a.root == b.root, a.series.call == b.series.call),
         a.series.expiry == b.series.expiry,
     );
     both(dated, a.series.strike.0 == b.series.strike.0)

@@ -6,14 +6,14 @@ use Rattle.rules.specs.Quantities.{distance}
 use Rattle.rules.specs.Symbol.{areSpaces, isRootTail, isRoot, leapDay, daysIn, dayExists, inLimits, symbolOf, partsOf, isSymbol}
 use Rattle.rules.specs.Order.{word, rawLeg, rawLegs, priceOf, legOf, legsOf, gcdWithin, gcd, commonDivisor, units}
 use Rattle.rules.specs.Pairing.{pairOf, matched, reach, walk, byStrike, byExpiry, bothWalks, isDebit}
-use Rattle.rules.specs.Class.{isVertical, isButterfly, isBox, shapeOf, hasOwnClass, allOf, pairClass, classOf}
+use Rattle.rules.specs.Class.{isVertical, isButterfly, isBox, shapeOf, hasOwnClass, allOf, pairClass, classWith}
 use Rattle.rules.specs.Checks.{putTest, callTest, simpleBuy, sizes, isBelow, sameSideBelow, buyBuy, debitCredit, maximumOf, allowance, maximumValue}
 use Rattle.rules.specs.Market.{isUnusable, elsewhereReference, reference, acceptableTicks, tickAt, limitDistance, isTooFar, tickDistance, settingsHold, marketHolds}
 use Rattle.rules.specs.Numbers.{firstOf, isBadPrice, refusal, rejection, judged, outcome, checkLegs, checkSlices}
 use Rattle.rules.specs.Examples.{Examples, Directions}
 
 computed : Examples × Directions
-unfolding all any somePair every lex insert sort value numeral areDigits distance areSpaces isRootTail isRoot leapDay daysIn dayExists inLimits symbolOf partsOf isSymbol word rawLeg rawLegs priceOf legOf legsOf gcdWithin gcd commonDivisor units pairOf matched reach walk byStrike byExpiry bothWalks isDebit isVertical isButterfly isBox shapeOf hasOwnClass allOf pairClass classOf putTest callTest simpleBuy sizes isBelow sameSideBelow buyBuy debitCredit maximumOf allowance maximumValue isUnusable elsewhereReference reference acceptableTicks tickAt limitDistance isTooFar tickDistance settingsHold marketHolds firstOf isBadPrice refusal rejection judged outcome checkLegs checkSlices
+unfolding all any somePair every lex insert sort value numeral areDigits distance areSpaces isRootTail isRoot leapDay daysIn dayExists inLimits symbolOf partsOf isSymbol word rawLeg rawLegs priceOf legOf legsOf gcdWithin gcd commonDivisor units pairOf matched reach walk byStrike byExpiry bothWalks isDebit isVertical isButterfly isBox shapeOf hasOwnClass allOf pairClass classWith putTest callTest simpleBuy sizes isBelow sameSideBelow buyBuy debitCredit maximumOf allowance maximumValue isUnusable elsewhereReference reference acceptableTicks tickAt limitDistance isTooFar tickDistance settingsHold marketHolds firstOf isBadPrice refusal rejection judged outcome checkLegs checkSlices
 computed = (refl, refl)
 
 pub examples : Examples

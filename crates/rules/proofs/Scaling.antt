@@ -17,7 +17,7 @@ use Rattle.rules.specs.declared.Market.{Market}
 use Rattle.rules.specs.Lists.{sameBool, lex, insert, sort, all}
 use Rattle.rules.specs.Order.{isYes, gcd, commonDivisor, divided, units}
 use Rattle.rules.specs.Pairing.{Pair, Walked, Reached, less, pairOf, matched, reach, walk, wholeLeg, oneExpiry, oneStrike, byStrike, byExpiry, bothWalks, isDebit}
-use Rattle.rules.specs.Class.{shapeOf, allOf, pairClass, classOf}
+use Rattle.rules.specs.Class.{shapeOf, allOf, pairClass, classWith, classOf}
 use Rattle.rules.specs.Numbers.{judged}
 use Rattle.rules.proofs.Divisor.{gcd-zero, gcd-step}
 
@@ -208,12 +208,7 @@ module _ (k : ℕ) (above : 0 < k) where
   pair-class-scaled w = rw (pairs-side true (w .pairs), legs-side true (w .legs), pairs-side false (w .pairs), legs-side false (w .legs))
 
   class-of-scaled : (us : List Leg) (w : Walked) → classOf us (scaledWalk k w) ≡ classOf us w
-  unfolding classOf
-  class-of-scaled [] w = pair-class-scaled w
-  class-of-scaled (a ∷ []) w = pair-class-scaled w
-  class-of-scaled (a ∷ b ∷ []) w = pair-class-scaled w
-  class-of-scaled (a ∷ b ∷ c ∷ []) w = rw (pair-class-scaled w)
-  class-of-scaled (a ∷ b ∷ c ∷ d ∷ r) w = pair-class-scaled w
+  class-of-scaled us w = ap (classWith us) (pair-class-scaled w)
 
   -- scaled legs have the same class
   pub class-scaled : (european : Bool) (ls : List Leg)

@@ -20,7 +20,7 @@ use Rattle.rules.specs.declared.Market.{Market}
 use Rattle.rules.specs.Lists.{All, sameBool, all, every}
 use Rattle.rules.specs.Order.{isYes, isComplex, priceOf, gcd, gcdWithin, commonDivisor, units}
 use Rattle.rules.specs.Pairing.{Walked, bothWalks}
-use Rattle.rules.specs.Class.{isVertical, isButterfly, isTrueButterfly, hasOwnClass, isBox, shapeOf, allOf, pairClass, classOf}
+use Rattle.rules.specs.Class.{isVertical, isButterfly, isTrueButterfly, hasOwnClass, isBox, shapeOf, allOf, pairClass, classWith, classOf}
 use Rattle.rules.specs.Checks.{isLimit, isPositive, isNegative, putTest, callTest, simpleBuy, sizes, isBelow, sameSideBelow, buyBuy, debitCredit, maximumOf, allowance, hasMaximum, maximumValue}
 use Rattle.rules.specs.Fair.{Has, Fair}
 use Rattle.rules.proofs.Tests.{and-both, or-either, not-eq, passed}
@@ -104,7 +104,7 @@ module _ (st : Settings) (mk : Market) (t : Terms) (legs : List Leg) (v : Series
   -- the class of unit legs, where pairs and loners bear theirs out
   class-us : (side : Bool) (us : List Leg) (w : Walked) → Hs us → (pairClass w ≡ codeOf side → worth v (not side) us ≤ worth v side us)
       → classOf us w ≡ codeOf side → worth v (not side) us ≤ worth v side us
-  unfolding classOf
+  unfolding classWith
   class-us side [] w h r e = r e
   class-us side (a ∷ []) w h r e = r e
   class-us side (a ∷ b ∷ []) w h r e = r e

@@ -2,7 +2,7 @@
 use mathlib.Core.Path.{_≡_, refl, sym}
 use mathlib.Core.List.{List, [], _∷_}
 use mathlib.Core.Logic.{_⊎_, inl, inr}
-use mathlib.Core.Bool.{Bool, true, false, not, _&&_, _||_, true≢false}
+use mathlib.Core.Bool.{Bool, true, false, not, _&&_, _||_, true≢false, Bool·beq}
 use Prim.Native.Nat.{ℕ, _≤_}
 use lib.Dec.{leb}
 use borrow.Author.Tests.{leb-true}
@@ -38,6 +38,13 @@ or-neither false b h = (refl, h)
 pub not-eq : (b : Bool) → not b ≡ true → b ≡ false
 not-eq true h = sym h
 not-eq false h = refl
+
+-- `==` of two flags in code
+pub beq-same : (a b : Bool) → Bool·beq a b ≡ sameBool a b
+beq-same true true = refl
+beq-same true false = refl
+beq-same false true = refl
+beq-same false false = refl
 
 pub same-eq : (a b : Bool) → sameBool a b ≡ true → a ≡ b
 same-eq true b h = sym h

@@ -87,10 +87,14 @@ allOf side w =
 unfoldable pub pairClass : Walked → ℕ
 pairClass w = cond (allOf true w) 1 (cond (allOf false w) 2 0)
 
--- of unit legs and of the pairing: such a butterfly "is a debit (1) if the middle is sold, a credit (2) if bought"
-unfoldable pub classOf : List Leg → Walked → ℕ
-classOf [] w = pairClass w
-classOf (a ∷ []) w = pairClass w
-classOf (a ∷ b ∷ []) w = pairClass w
-classOf (a ∷ m ∷ b ∷ []) w = cond (hasOwnClass a m b) (cond (m .bought) 2 1) (pairClass w)
-classOf (a ∷ b ∷ c ∷ d ∷ r) w = pairClass w
+-- of unit legs, and of the class that pairs and loners give: such a butterfly "is a debit (1) if the middle is sold, a credit (2) if bought"
+unfoldable pub classWith : List Leg → ℕ → ℕ
+classWith [] pairs = pairs
+classWith (a ∷ []) pairs = pairs
+classWith (a ∷ b ∷ []) pairs = pairs
+classWith (a ∷ m ∷ b ∷ []) pairs = cond (hasOwnClass a m b) (cond (m .bought) 2 1) pairs
+classWith (a ∷ b ∷ c ∷ d ∷ r) pairs = pairs
+
+-- of unit legs and of the pairing
+abbrev pub classOf : List Leg → Walked → ℕ
+classOf us w = classWith us (pairClass w)

@@ -94,6 +94,46 @@ tickDistance st m t us =
     ∷ all (isTooFar st m t) us
     ∷ [])
 
+-- settings and market as the host hands them in, number by number
+abbrev pub settingsOf : ℕ → ℕ → ℕ → ℕ → ℕ → ℕ → ℕ → ℕ → ℕ → ℕ → ℕ → ℕ → ℕ → ℕ → ℕ → ℕ → ℕ → ℕ → ℕ → ℕ → Settings
+settingsOf check20 check21 check22 check23 check24 check25 check26 lowtick hightick increment atd0 atd1 atd2 atd3 percentage least most setticks adjusted european =
+    record {
+      check20 = check20;
+      check21 = check21;
+      check22 = check22;
+      check23 = check23;
+      check24 = check24;
+      check25 = check25;
+      check26 = check26;
+      lowtick = record { 0 = lowtick };
+      hightick = record { 0 = hightick };
+      increment = record { 0 = increment };
+      atd0 = record { 0 = atd0 };
+      atd1 = record { 0 = atd1 };
+      atd2 = record { 0 = atd2 };
+      atd3 = record { 0 = atd3 };
+      percentage = percentage;
+      least = record { 0 = least };
+      most = record { 0 = most };
+      setticks = record { 0 = setticks };
+      adjusted = adjusted;
+      european = european;
+    }
+
+abbrev pub marketOf : ℕ → ℕ → ℕ → ℕ → ℕ → ℕ → ℕ → ℕ → ℕ → Market
+marketOf phase elsewhere extended underlying nbb nbo bid offer close =
+    record {
+      phase = phase;
+      elsewhere = elsewhere;
+      extended = extended;
+      underlying = record { 0 = underlying };
+      nbb = record { 0 = nbb };
+      nbo = record { 0 = nbo };
+      bid = record { 0 = bid };
+      offer = record { 0 = offer };
+      close = record { 0 = close };
+    }
+
 -- "Settings: [..] two ticks [..] and the net increment 1 to 1,000; the four ATDs 2 to 1,000; percentage 0 to 10,000; presets 0 to 1,000,000, minimum not above maximum; set ticks 0 to 1,000"
 unfoldable pub settingsHold : Settings → Bool
 settingsHold st =

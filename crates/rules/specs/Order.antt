@@ -74,6 +74,13 @@ legOf r = let p = partsOf (r .symbol) in record { root = p .root; series = serie
 unfoldable pub legsOf : List RawLeg → List Leg
 legsOf rs = map legOf rs
 
+-- what an array holds where no leg is written
+abbrev pub noRawLeg : RawLeg
+noRawLeg = record { bought = false; size = 0; symbol = [] }
+
+abbrev pub noLeg : Leg
+noLeg = record { root = 0; series = record { call = false; expiry = 0; strike = record { 0 = 0 } }; bought = false; size = 0 }
+
 -- the legs that a record of legs carries
 abbrev pub legsIn : Legs → List Leg
 legsIn l = take (l .len) (l .legs)

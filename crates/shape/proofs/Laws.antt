@@ -1,28 +1,21 @@
 -- The definitions as the code computes them.
-use mathlib.Core.Path.{_≡_, refl, sym, ap, _∙_}
+use mathlib.Core.Path.{_≡_, refl}
 use mathlib.Core.List.{List, [], _∷_, _++_}
-use mathlib.Core.Bool.{Bool, true, false, cond, not, _&&_, Bool·beq}
-use Prim.Native.Nat.{ℕ, zero, suc, _+_, _-_, _*_, _≤_, _<_, min, max}
+use mathlib.Core.Bool.{Bool, true, false, not, _&&_}
+use Prim.Native.Nat.{ℕ, zero, suc, _+_, _-_, _*_, min, max}
 use native.Mathlib.Omega.{arith}
-use lib.Dec.{eqb, leb, ltb}
-use lib.ListN.{length, take, drop, getD}
-use lib.Seq.{drop-cons}
-use borrow.Author.Tests.{eqb-true, eqb-false, leb-true, leb-false, eq-eqb, ne-eqb, le-leb, lt-leb, le-ltb}
+use lib.Dec.{eqb, ltb}
+use lib.ListN.{length, take}
+use borrow.Author.Tests.{eqb-true, eqb-false, eq-eqb, ne-eqb}
 use Rattle.rules.specs.declared.Leg.{Leg}
 use Rattle.rules.specs.declared.Legs.{Legs}
 use Rattle.rules.specs.declared.Series.{Series}
-use Rattle.rules.specs.Lists.{sameBool, every}
-use Rattle.rules.specs.Pairing.{Walked, oneExpiry}
+use Rattle.rules.specs.Lists.{every}
+use Rattle.rules.specs.Pairing.{oneExpiry}
 use Rattle.rules.specs.Order.{legsIn}
-use Rattle.rules.specs.Class.{strikeOf, isOf, opposite, isVertical, between, isButterfly, isTrueButterfly, hasOwnClass, shapeOf, classOf, pairClass}
-use Rattle.rules.specs.Checks.{maximumOf}
+use Rattle.rules.specs.Class.{strikeOf, isOf, opposite, isVertical, between, isButterfly, isTrueButterfly, shapeOf}
+use Rattle.strikes.proofs.Listed.{shown}
 use Rattle.shape.specs.Box.{boxSeries, boxSides}
-
-pub same : (a b : Bool) → Bool·beq a b ≡ sameBool a b
-same true true = refl
-same true false = refl
-same false true = refl
-same false false = refl
 
 every-append : (xs ys : List Bool) → every xs && every ys ≡ every (xs ++ ys)
 unfolding every
@@ -94,13 +87,6 @@ unfolding boxSides
 sides-read p q d c {calls} {lower} {higher} f s k x z y r =
     rw (← f, ← s, ← k) (joined _ _ x (cc (every-three calls lower higher)) r)
 
-leb-alike : (a b c d : ℕ) → (c ≤ d → a ≤ b) → (d < c → b < a) → leb a b ≡ leb c d
-leb-alike a b c d f g = go (leb c d) refl
-  where
-    go : (t : Bool) → leb c d ≡ t → leb a b ≡ t
-    go true e = le-leb a b (f (leb-true c d e))
-    go false e = lt-leb a b (g (leb-false c d e))
-
 -- Twice the middle strike against the sum of the outer ones, by its distances from the lower and from the higher.
 module _ (a m b : Leg) {low high : ℕ}
     (l : low ≡ strikeOf m - min (strikeOf a) (strikeOf b))
@@ -118,21 +104,6 @@ module _ (a m b : Leg) {low high : ℕ}
       go true e = let f = eqb-true twice sum e in eq-eqb low high (omega arith)
       go false e = ne-eqb low high (λ f. eqb-false twice sum e (omega arith))
 
-  pub own-class-read : {leans butterfly r : Bool}
-      → leans ≡ cond (m .series .call) (leb high low) (leb low high)
-      → butterfly ≡ isButterfly a m b
-      → r ≡ butterfly && leans
-      → r ≡ hasOwnClass a m b
-  unfolding hasOwnClass
-  own-class-read e f r =
-      let calls = leb-alike high low sum twice (λ g. omega arith) (λ g. omega arith) in
-      let puts = leb-alike low high twice sum (λ g. omega arith) (λ g. omega arith) in
-      rw (← calls, ← puts, ← e, ← f) r
-
--- what the code reads past the end
-abbrev pub noLeg : Leg
-noLeg = record { root = 0; series = record { call = false; expiry = 0; strike = record { 0 = 0 } }; bought = false; size = 0 }
-
 -- The first `n` of some legs, for the numbers that the code takes together.
 module _ (a b c d e : Leg) (r : List Leg) where
   abbrev these : List Leg
@@ -147,58 +118,6 @@ module _ (a b c d e : Leg) (r : List Leg) where
   shape-none (suc (suc (suc (suc zero)))) f g h = absurd (h refl)
   shape-none (suc (suc (suc (suc (suc n))))) f g h = refl
 
-  class-pairs : (n : ℕ) (w : Walked) → (n ≡ 3 → ⊥) → pairClass w ≡ classOf (take n these) w
-  unfolding classOf
-  class-pairs zero w h = refl
-  class-pairs (suc zero) w h = refl
-  class-pairs (suc (suc zero)) w h = refl
-  class-pairs (suc (suc (suc zero))) w h = absurd (h refl)
-  class-pairs (suc (suc (suc (suc n)))) w h = refl
-
-  maximum-these : (n : ℕ)
-      → cond (ltb n 2) 0 (cond (eqb n 2) ((strikeOf a - strikeOf b) + (strikeOf b - strikeOf a)) (cond (eqb n 3) (strikeOf b - min (strikeOf a) (strikeOf c)) (strikeOf c - strikeOf d)))
-      ≡ maximumOf (take n these)
-  unfolding maximumOf
-  maximum-these zero = refl
-  maximum-these (suc zero) = refl
-  maximum-these (suc (suc zero)) = refl
-  maximum-these (suc (suc (suc zero))) = refl
-  maximum-these (suc (suc (suc (suc n)))) =
-      let m = suc (suc (suc (suc n))) in
-      rw (le-ltb m 2 (omega arith), ne-eqb m 2 (λ f. omega arith), ne-eqb m 3 (λ f. omega arith))
-
--- The first legs of a record, one by one.
 module _ (us : Legs) (long : length (us .legs) ≡ 16) where
-  abbrev at : ℕ → Leg
-  at i = getD (us .legs) i noLeg
-
-  abbrev listed : List Leg
-  listed = at 0 ∷ at 1 ∷ at 2 ∷ at 3 ∷ at 4 ∷ drop 5 (us .legs)
-
-  next : (i : ℕ) → i < 16 → drop i (us .legs) ≡ at i ∷ drop (suc i) (us .legs)
-  next i h = drop-cons (us .legs) i noLeg (omega arith)
-
-  legs-listed : us .legs ≡ listed
-  legs-listed =
-      rw (← next 4 (omega arith), ← next 3 (omega arith), ← next 2 (omega arith), ← next 1 (omega arith), ← next 0 (omega arith))
-
-  -- what is so of the first legs is so of the record's legs
-  pub shown : (f : List Leg → ℕ) (n : ℕ) {r : ℕ} → us .len ≡ n → r ≡ f (take n listed) → r ≡ f (legsIn us)
-  shown f n e h = h ∙ ap (λ (ls : List Leg). f (take n ls)) (sym legs-listed) ∙ ap (λ (k : ℕ). f (take k (us .legs))) (sym e)
-
   pub shape-other : (us .len ≡ 2 → ⊥) → (us .len ≡ 3 → ⊥) → (us .len ≡ 4 → ⊥) → 0 ≡ shapeOf (legsIn us)
-  shape-other f g h = shown shapeOf (us .len) refl (shape-none _ _ _ _ _ _ (us .len) f g h)
-
-  pub class-other : (w : Walked) → (us .len ≡ 3 → ⊥) → pairClass w ≡ classOf (legsIn us) w
-  class-other w h = shown (λ ls. classOf ls w) (us .len) refl (class-pairs _ _ _ _ _ _ (us .len) w h)
-
-  pub maximum : {x y z p q r : ℕ}
-      → x ≡ (strikeOf (at 0) - strikeOf (at 1)) + (strikeOf (at 1) - strikeOf (at 0))
-      → y ≡ strikeOf (at 1) - min (strikeOf (at 0)) (strikeOf (at 2))
-      → z ≡ strikeOf (at 2) - strikeOf (at 3)
-      → p ≡ cond (eqb (us .len) 3) y z
-      → q ≡ cond (eqb (us .len) 2) x p
-      → r ≡ cond (ltb (us .len) 2) 0 q
-      → r ≡ maximumOf (legsIn us)
-  maximum x y z p q r =
-      cc (shown maximumOf (us .len) refl (maximum-these (at 0) (at 1) (at 2) (at 3) (at 4) (drop 5 (us .legs)) (us .len)))
+  shape-other f g h = shown us long shapeOf (us .len) refl (shape-none _ _ _ _ _ _ (us .len) f g h)

@@ -1,22 +1,21 @@
-// The shape and the class of unit legs, and M, the most that their shape can be worth.
-// Strikes are compared by differences, since a sum of two could pass 64 bits: so every function takes any legs.
+// The shape of unit legs.
 use choice::both;
-use choice::choose;
 use choice::either;
 use choice::negated;
 use choice::pick;
 use rules::Leg;
 use rules::Legs;
 use rules::Series;
+use strikes::above_lower;
+use strikes::below_higher;
 ghost use mathlib.Core.Path.{_≡_};
 ghost use mathlib.Core.List.{[], _∷_};
-ghost use Prim.Native.Nat.{_+_, _-_, min, max};
 ghost use Rattle.rules.specs.Lists.{every};
-ghost use Rattle.rules.specs.Pairing.{Walked, oneExpiry};
+ghost use Rattle.rules.specs.Pairing.{oneExpiry};
 ghost use Rattle.rules.specs.Order.{legsIn};
-ghost use Rattle.rules.specs.Class.{opposite, isVertical, between, isButterfly, isTrueButterfly, isBox, shapeOf, hasOwnClass, pairClass, classOf};
-ghost use Rattle.rules.specs.Checks.{maximumOf};
+ghost use Rattle.rules.specs.Class.{opposite, isVertical, between, isButterfly, isTrueButterfly, isBox, shapeOf};
 ghost use Rattle.shape.specs.Box.{boxSeries, boxSides};
+pub use strikes::maximum_of;
 
 fn all_four(a: bool, b: bool, c: bool, d: bool) -> bool
     ensures { λ r. ⌜ r ≡ every (a ∷ b ∷ c ∷ d ∷ []) ⌝ }
@@ -56,7 +55,7 @@ fn between(a: u64, m: u64, b: u64) -> bool
 }
 
 // `m` has the middle strike.
-fn is_butterfly(a: Leg, m: Leg, b: Leg) -> bool
+pub fn is_butterfly(a: Leg, m: Leg, b: Leg) -> bool
     ensures { λ r. ⌜ r ≡ isButterfly a m b ⌝ }
 {
     both(
@@ -75,27 +74,6 @@ fn is_butterfly(a: Leg, m: Leg, b: Leg) -> bool
     )
 }
 
-// `x` less `y`, and 0 where `y` is greater.
-fn less(x: u64, y: u64) -> u64
-    ensures { λ r. ⌜ r ≡ x - y ⌝ }
-{
-    if x < y { 0 } else { x - y }
-}
-
-// How far `m` is above the lower of `a` and `b`, and 0 where it is below.
-fn above_lower(a: u64, m: u64, b: u64) -> u64
-    ensures { λ r. ⌜ r ≡ m - min a b ⌝ }
-{
-    if a < b { less(m, a) } else { less(m, b) }
-}
-
-// How far `m` is below the higher of `a` and `b`, and 0 where it is above.
-fn below_higher(a: u64, m: u64, b: u64) -> u64
-    ensures { λ r. ⌜ r ≡ max a b - m ⌝ }
-{
-    if a < b { less(b, m) } else { less(a, m) }
-}
-
 // The middle strike is as far from one outer strike as from the other.
 fn is_true_butterfly(a: Leg, m: Leg, b: Leg) -> bool
     ensures { λ r. ⌜ r ≡ isTrueButterfly a m b ⌝ }
@@ -103,16 +81,6 @@ fn is_true_butterfly(a: Leg, m: Leg, b: Leg) -> bool
     let low = above_lower(a.series.strike.0, m.series.strike.0, b.series.strike.0);
     let high = below_higher(a.series.strike.0, m.series.strike.0, b.series.strike.0);
     low == high
-}
-
-// The middle strike of calls is no nearer to the lower outer strike than to the higher, that of puts no nearer to the higher.
-fn has_own_class(a: Leg, m: Leg, b: Leg) -> bool
-    ensures { λ r. ⌜ r ≡ hasOwnClass a m b ⌝ }
-{
-    let low = above_lower(a.series.strike.0, m.series.strike.0, b.series.strike.0);
-    let high = below_higher(a.series.strike.0, m.series.strike.0, b.series.strike.0);
-    let leans = choose(m.series.call, high <= low, low <= high);
-    both(is_butterfly(a, m, b), leans)
 }
 
 // One expiry, two strikes, a call and a put at each.
@@ -196,46 +164,4 @@ pub fn shape_of(us: Legs) -> u64
         return shape_of_four(a, b, c, d);
     }
     0
-}
-
-// A butterfly with a class of its own is a debit if the middle is sold, a credit if it is bought.
-fn class_of_three(a: Leg, m: Leg, b: Leg, pairs: u64) -> u64
-    ensures { λ r. ⌜ ((w : Walked) → pairClass w ≡ pairs → r ≡ classOf (a ∷ m ∷ b ∷ []) w) ⌝ }
-{
-    pick(has_own_class(a, m, b), pick(m.bought, 2, 1), pairs)
-}
-
-// The class of unit legs in the first walk's sequence. `pairs` is the class that the pairs and loners of a walk give.
-pub fn class_of(us: Legs, pairs: u64) -> u64
-    ensures { λ r. ⌜ ((w : Walked) → pairClass w ≡ pairs → r ≡ classOf (legsIn us) w) ⌝ }
-{
-    let n = us.len;
-    let a = us.legs[0];
-    let m = us.legs[1];
-    let b = us.legs[2];
-    if n == 3 {
-        return class_of_three(a, m, b, pairs);
-    }
-    pairs
-}
-
-// The difference of two strikes.
-fn apart(x: u64, y: u64) -> u64
-    ensures { λ r. ⌜ r ≡ (x - y) + (y - x) ⌝ }
-{
-    if x < y { y - x } else { x - y }
-}
-
-// M of check 24, of unit legs in the first walk's sequence.
-pub fn maximum_of(us: Legs) -> u64
-    ensures { λ r. ⌜ r ≡ maximumOf (legsIn us) ⌝ }
-{
-    let n = us.len;
-    let a = us.legs[0].series.strike.0;
-    let b = us.legs[1].series.strike.0;
-    let c = us.legs[2].series.strike.0;
-    let d = us.legs[3].series.strike.0;
-    // Three legs are taken for a butterfly, more for a box with its calls last, from the highest strike down.
-    let more = pick(n == 3, above_lower(a, b, c), less(c, d));
-    pick(n < 2, 0, pick(n == 2, apart(a, b), more))
 }

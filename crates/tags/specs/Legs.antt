@@ -5,7 +5,7 @@ use Rattle.rules.specs.declared.Series.{Series}
 use Rattle.rules.specs.declared.Leg.{Leg}
 use Rattle.rules.specs.declared.Legs.{Legs}
 use Rattle.rules.specs.Pairing.{digit, strikeKey}
-use Rattle.walk.specs.Tags.{noLeg}
+use Rattle.rules.specs.Order.{noLeg}
 
 -- expiry and strike have at most eight digits
 pub record InRange (s : Series) : Type 0 where

@@ -7,8 +7,9 @@ use native.Mathlib.Omega.{arith}
 use lib.ListN.{length, take, drop, getD, set}
 use Rattle.rules.specs.declared.Leg.{Leg}
 use Rattle.rules.specs.Pairing.{Reached, less, pairOf, matched, reach, walk}
+use Rattle.rules.specs.Order.{noLeg}
 use Rattle.walk.specs.declared.Tally.{Tally}
-use Rattle.walk.specs.Tags.{legAt, legsFrom, together, Tagged, matchedAt, noteAt, noLeg, none, noted, reached}
+use Rattle.walk.specs.Tags.{legAt, legsFrom, together, Tagged, matchedAt, noteAt, none, noted, reached}
 use Rattle.walk.proofs.Zip.{zip-length, zip-at, zip-set}
 use Rattle.walk.proofs.Tagging.{matched-tags, note-tags, matched-group}
 use Rattle.walk.proofs.Walking.{View, view, start-legs, start-tally, met, over, put, walked-legs, walked-tally}

@@ -10,8 +10,9 @@ use lib.Seq.{drop-cons, getD-take, length-take-le, take-suc, take-suc-set, take-
 use Rattle.rules.specs.declared.Series.{Series}
 use Rattle.rules.specs.declared.Leg.{Leg}
 use Rattle.rules.specs.Pairing.{Pair, Reached, Walked, less, pairOf, matched, reach, walk}
+use Rattle.rules.specs.Order.{noLeg}
 use Rattle.walk.specs.declared.Tally.{Tally}
-use Rattle.walk.specs.Tags.{noLeg, none, noted}
+use Rattle.walk.specs.Tags.{none, noted}
 
 noted-append : (t : Tally) (ms ns : List Pair) → noted t (ms ++ ns) ≡ noted (noted t ms) ns
 noted-append t [] ns = refl

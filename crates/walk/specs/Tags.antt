@@ -8,6 +8,7 @@ use lib.Dec.{eqb, ltb}
 use Rattle.rules.specs.declared.Series.{Series}
 use Rattle.rules.specs.declared.Leg.{Leg}
 use Rattle.rules.specs.Pairing.{Pair, Walked, Reached, reach, walk, oneExpiry, oneStrike, isDebit}
+use Rattle.rules.specs.Order.{noLeg}
 use Rattle.walk.specs.declared.Tally.{Tally}
 
 -- the series that a key says: of the first walk, or of the second
@@ -60,9 +61,6 @@ none = record { pairs = 0; debit = false; credit = false }
 abbrev pub noted : Tally → List Pair → Tally
 noted t [] = t
 noted t (m ∷ ms) = noted (oneMore t (isDebit (m .buy) (m .sell))) ms
-
-abbrev pub noLeg : Leg
-noLeg = record { root = 0; series = record { call = false; expiry = 0; strike = record { 0 = 0 } }; bought = false; size = 0 }
 
 -- the leg at `i` against those behind it, which are walked before it
 abbrev pub reached : ℕ → List ℕ → List ℕ → ℕ → ℕ → Bool → Reached

@@ -5,8 +5,9 @@ use choice::choose;
 use choice::either;
 use choice::negated;
 use choice::pick;
+use choice::smaller;
 ghost use mathlib.Core.Path.{_≡_};
-ghost use Prim.Native.Nat.{_+_, _-_, _≤_, _<_, min};
+ghost use Prim.Native.Nat.{_+_, _-_, _≤_, _<_};
 ghost use lib.ListN.{length};
 ghost use Rattle.walk.specs.Tags.{Tagged, matchedAt, debitKeys, noteAt, Reaches, Walks};
 
@@ -15,12 +16,6 @@ pub struct Tally {
     pub pairs: u64,
     pub debit: bool,
     pub credit: bool,
-}
-
-fn smaller(a: u64, b: u64) -> u64
-    ensures { λ r. ⌜ r ≡ min a b ⌝ }
-{
-    if a < b { a } else { b }
 }
 
 // How many contracts of two legs are matched: those of one group and of two sides.

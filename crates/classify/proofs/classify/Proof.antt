@@ -1,9 +1,9 @@
 -- The sorted legs are as valid as those that came.
-use mathlib.Core.Path.{sym, ap, ap₂, _∙_}
+use mathlib.Core.Path.{ap, ap₂, _∙_}
 use lib.ListN.{length}
 use Rattle.rules.specs.Order.{legsIn, units}
 use Rattle.rules.specs.Pairing.{Walked, bothWalks}
-use Rattle.rules.specs.Class.{shapeOf, classOf}
+use Rattle.rules.specs.Class.{shapeOf, pairClass, classWith}
 use Rattle.classify.specs.Legs.{Valid}
 use Rattle.classify.proofs.Valid.{sortable, walkable, all-positive, sorted-valid}
 use Rattle.classify.proofs.classify.Statement.{statement}
@@ -31,11 +31,10 @@ returns c =
     let us = u .0 ∙ ap units (s .0) in
     let e = c .before .before .before .before .before .args .european in
     let walked = ap (bothWalks e) (s .0) in
-    let k = c .before .class-of .ensures (bothWalks e (legsIn (c .before .before .before .before .by-strike .result))) (sym (w .class)) in
     record {
       counts = us;
       len = u .1 ∙ s .1;
-      class = k ∙ ap₂ classOf us walked;
+      class = c .before .class-of .ensures ∙ ap₂ classWith us (w .class ∙ ap pairClass walked);
       shape = c .shape-of .ensures ∙ ap shapeOf us;
       pairings = w .pairings ∙ ap (λ (x : Walked). length (x .pairs)) walked;
     }

@@ -6,8 +6,9 @@ use Prim.Native.Nat.{_≤_, _-_}
 use native.Mathlib.Omega.{arith}
 use lib.ListN.{length, take, drop, length-map}
 use Rattle.rules.specs.Lists.{sameBool, all}
+use Rattle.rules.specs.Order.{noLeg}
 use Rattle.loops.proofs.Finding.{all-turn, all-end}
-use Rattle.shape.proofs.Laws.{noLeg, same}
+use Rattle.shape.proofs.Laws.{same}
 use Rattle.complex_checks.proofs.all_on.Statement.{statement}
 use Rattle.complex_checks.proofs.all_on.Tie as tie
 

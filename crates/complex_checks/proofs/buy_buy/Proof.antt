@@ -4,8 +4,8 @@ use Prim.Native.Nat.{ℕ, _*_, _≤_}
 use native.Mathlib.Omega.{arith}
 use lib.ListN.{length, length-map, getD}
 use Rattle.rules.specs.Checks.{isBelow}
+use Rattle.rules.specs.Order.{noLeg}
 use Rattle.rules.proofs.Bounds.{settings-bounds}
-use Rattle.shape.proofs.Laws.{noLeg}
 use Rattle.complex_checks.proofs.Laws.{least-bound, buy-buy-tested, buy-buy-untested}
 use borrow.Author.Needs.{needs}
 use Rattle.complex_checks.proofs.buy_buy.Statement.{statement}

@@ -6,7 +6,7 @@ use native.Mathlib.Omega.{arith}
 use lib.ListN.{length, take, drop, length-map}
 use lib.Seq.{length-take-le}
 use Rattle.rules.specs.Checks.{sizes}
-use Rattle.shape.proofs.Laws.{noLeg}
+use Rattle.rules.specs.Order.{noLeg}
 use Rattle.complex_checks.proofs.Laws.{sizes-turn, sizes-end, sizes-bound}
 use Rattle.complex_checks.proofs.sizes.Statement.{statement}
 use Rattle.complex_checks.proofs.sizes.Tie as tie

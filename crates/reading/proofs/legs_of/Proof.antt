@@ -7,10 +7,9 @@ use lib.ListN.{length, take, drop, getD, length-map, length-set}
 use Rattle.rules.specs.declared.RawLeg.{RawLeg}
 use Rattle.rules.specs.Lists.{any}
 use Rattle.rules.specs.Symbol.{isSymbol}
-use Rattle.rules.specs.Order.{legOf, legsOf}
+use Rattle.rules.specs.Order.{legOf, legsOf, noRawLeg}
 use Rattle.loops.proofs.Filling.{fill-turn}
 use Rattle.loops.proofs.Finding.{any-turn, any-end}
-use Rattle.reading.proofs.Laws.{noRawLeg}
 use borrow.Author.Needs.{needs}
 use Rattle.reading.proofs.legs_of.Statement.{statement}
 use Rattle.reading.proofs.legs_of.Tie as tie

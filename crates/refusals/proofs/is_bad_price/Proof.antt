@@ -4,7 +4,8 @@ use mathlib.Core.Bool.{Bool, cond, not, _&&_, _||_}
 use native.Mathlib.Omega.{arith}
 use lib.ListN.{length, getD, length-map}
 use lib.Dec.{eqb, ltb}
-use Rattle.refusals.proofs.Laws.{noLeg, price-of-first}
+use Rattle.rules.specs.Order.{noLeg}
+use Rattle.refusals.proofs.Laws.{price-of-first}
 use Rattle.refusals.proofs.is_bad_price.Statement.{statement}
 use Rattle.refusals.proofs.is_bad_price.Tie as tie
 

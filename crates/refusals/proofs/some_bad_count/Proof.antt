@@ -7,8 +7,8 @@ use native.Mathlib.Omega.{arith}
 use lib.ListN.{length, take, drop, length-map}
 use Rattle.rules.specs.Lists.{any}
 use Rattle.rules.specs.Numbers.{isBadCount}
+use Rattle.rules.specs.Order.{noRawLeg}
 use Rattle.loops.proofs.Finding.{any-turn, any-end}
-use Rattle.refusals.proofs.Laws.{noRawLeg}
 use Rattle.refusals.proofs.some_bad_count.Statement.{statement}
 use Rattle.refusals.proofs.some_bad_count.Tie as tie
 

@@ -7,8 +7,9 @@ use native.Mathlib.Omega.{arith}
 use lib.ListN.{length, take, drop, getD, length-map}
 use Rattle.rules.specs.Lists.{any}
 use Rattle.rules.specs.Numbers.{isOtherRoot}
+use Rattle.rules.specs.Order.{noLeg}
 use Rattle.loops.proofs.Finding.{any-turn, any-end}
-use Rattle.refusals.proofs.Laws.{noLeg, roots-from-first}
+use Rattle.refusals.proofs.Laws.{roots-from-first}
 use Rattle.refusals.proofs.some_other_root.Statement.{statement}
 use Rattle.refusals.proofs.some_other_root.Tie as tie
 

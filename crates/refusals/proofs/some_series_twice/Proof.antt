@@ -7,8 +7,8 @@ use native.Mathlib.Omega.{arith}
 use lib.ListN.{length, take, drop, length-map}
 use Rattle.rules.specs.Lists.{somePair}
 use Rattle.rules.specs.Numbers.{isSameSeries}
+use Rattle.rules.specs.Order.{noLeg}
 use Rattle.loops.proofs.Finding.{from, pair-enter, pair-turn, pair-leave, pair-end}
-use Rattle.refusals.proofs.Laws.{noLeg}
 use Rattle.refusals.proofs.some_series_twice.Statement.{statement}
 use Rattle.refusals.proofs.some_series_twice.Tie as tie
 

@@ -1,7 +1,8 @@
 use mathlib.Core.Path.{_≡_, sym, _∙_}
 use lib.ListN.{length, length-map}
 use Rattle.rules.specs.Class.{shapeOf}
-use Rattle.shape.proofs.Laws.{shown, shape-other}
+use Rattle.strikes.proofs.Listed.{shown}
+use Rattle.shape.proofs.Laws.{shape-other}
 use borrow.Author.Needs.{needs}
 use Rattle.shape.proofs.shape_of.Statement.{statement}
 use Rattle.shape.proofs.shape_of.Tie as tie

@@ -6,8 +6,8 @@ use Prim.Native.Nat.{ℕ, _≤_, _-_, _<_, _+_, _*_, _%_}
 use native.Mathlib.Omega.{arith}
 use lib.ListN.{length, take, drop, getD, set, length-map, length-set}
 use Rattle.rules.specs.declared.Leg.{Leg}
-use Rattle.walk.specs.Tags.{noLeg}
 use Rattle.rules.specs.Pairing.{strikeKey}
+use Rattle.rules.specs.Order.{noLeg}
 use Rattle.sorting.specs.Keys.{sortKeys, tagged}
 use Rattle.tags.proofs.Filling.{places-turn}
 use Rattle.legs.proofs.sequence.places.Statement.{statement}

@@ -6,7 +6,6 @@ use Prim.Native.Nat.{ℕ, _≤_, _-_, _<_, _+_, _*_, _%_}
 use native.Mathlib.Omega.{arith}
 use lib.ListN.{length, take, drop, getD, set, length-map, length-set}
 use Rattle.rules.specs.declared.Leg.{Leg}
-use Rattle.walk.specs.Tags.{noLeg}
 use Rattle.rules.specs.Order.{commonDivisor}
 use Rattle.legs.proofs.Divisor.{divisor-start, divisor-turn}
 use Rattle.legs.proofs.units.common_divisor.Statement.{statement}

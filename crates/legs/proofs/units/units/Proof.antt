@@ -5,8 +5,7 @@ use Prim.Native.Nat.{ℕ, _≤_, _-_, _<_, _+_}
 use native.Mathlib.Omega.{arith}
 use lib.ListN.{length, take, length-map, length-set}
 use lib.Seq.{length-take-le}
-use Rattle.rules.specs.Order.{divided}
-use Rattle.walk.specs.Tags.{noLeg}
+use Rattle.rules.specs.Order.{divided, noLeg}
 use Rattle.loops.proofs.Filling.{fill-turn}
 use Rattle.legs.proofs.Divisor.{divisor-positive, units-are}
 use borrow.Author.Needs.{needs}

@@ -6,7 +6,7 @@ use lib.ListN.{length, length-map}
 use Rattle.rules.specs.declared.Leg.{Leg}
 use Rattle.rules.specs.Pairing.{byStrike}
 use Rattle.rules.specs.Numbers.{judged}
-use Rattle.walk.specs.Tags.{noLeg}
+use Rattle.rules.specs.Order.{noLeg}
 use Rattle.order_check.proofs.Laws.{one-leg, first-size}
 use borrow.Author.Needs.{needs}
 use Rattle.order_check.proofs.judge.judge.Statement.{statement}

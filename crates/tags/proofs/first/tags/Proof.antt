@@ -6,7 +6,7 @@ use Prim.Native.Nat.{ℕ, _≤_, _-_, _<_, _+_}
 use native.Mathlib.Omega.{arith}
 use lib.ListN.{length, take, getD, length-map, length-set}
 use Rattle.rules.specs.declared.Leg.{Leg}
-use Rattle.walk.specs.Tags.{noLeg}
+use Rattle.rules.specs.Order.{noLeg}
 use Rattle.tags.specs.Legs.{tagOf}
 use Rattle.loops.proofs.Filling.{fill-turn}
 use Rattle.tags.proofs.Filling.{below-turn, zeros-below}

@@ -1,9 +1,9 @@
 use mathlib.Core.Path.{_≡_, sym, _∙_}
 use lib.ListN.{length, length-map}
-use Rattle.shape.proofs.Laws.{maximum}
+use Rattle.strikes.proofs.Laws.{maximum}
 use borrow.Author.Needs.{needs}
-use Rattle.shape.proofs.maximum_of.Statement.{statement}
-use Rattle.shape.proofs.maximum_of.Tie as tie
+use Rattle.strikes.proofs.maximum_of.Statement.{statement}
+use Rattle.strikes.proofs.maximum_of.Tie as tie
 
 full : (c : tie.Start) → length (c .args .t1 .legs) ≡ 16
 full c = sym (length-map (c .args .t1 .legs) _) ∙ c .good .0 .1 .1 .0 .1 .0 .1
