@@ -16,7 +16,7 @@ use Rattle.rules.specs.declared.OrderAnswer.{OrderAnswer}
 use Rattle.rules.specs.Lists.{sort, insert, all, sameBool}
 use Rattle.rules.specs.Order.{isYes, gcd, gcdWithin, commonDivisor, units}
 use Rattle.rules.specs.Pairing.{Walked, reach, walk, byStrike, byExpiry, bothWalks}
-use Rattle.rules.specs.Class.{shapeOf, allOf, pairClass, classOf}
+use Rattle.rules.specs.Class.{shapeOf, allOf, pairClass, classWith, classOf}
 use Rattle.rules.specs.Numbers.{rejection, judged}
 
 -- one unit of the leg
@@ -39,7 +39,7 @@ units-one x h =
     ap (λ (n : ℕ). record { root = x .root; series = x .series; bought = x .bought; size = n } ∷ []) e
 
 class-one : (x u : Leg) → 0 < x .size → classOf (u ∷ []) (record { pairs = []; legs = x ∷ [] }) ≡ cond (x .bought) 1 2
-unfolding classOf pairClass allOf all
+unfolding classWith pairClass allOf all
 class-one x u h = rw (ne-eqb (x .size) 0 (λ e. absurd (omega arith))) (go (x .bought))
   where
     go : (b : Bool) → _≡_ {A = ℕ} (cond (true && ((false || sameBool true b) && true)) 1 (cond (true && ((false || sameBool false b) && true)) 2 0)) (cond b 1 2)

@@ -8,7 +8,7 @@ use lib.ListN.{length, take, drop, length-map}
 use Rattle.rules.specs.Lists.{sameBool, all}
 use Rattle.rules.specs.Order.{noLeg}
 use Rattle.loops.proofs.Finding.{all-turn, all-end}
-use Rattle.shape.proofs.Laws.{same}
+use Rattle.rules.proofs.Tests.{beq-same}
 use Rattle.complex_checks.proofs.all_on.Statement.{statement}
 use Rattle.complex_checks.proofs.all_on.Tie as tie
 
@@ -28,7 +28,7 @@ loop-again : tie.Need-loop-again Inv-loop μ-loop
 loop-again c =
     let s = c .before .before .before in
     let l = c .before .before .loop in
-    all-turn noLeg (s .args .t1 .legs) (s .args .t1 .len) (fits s) (λ u. sameBool (s .args .side) (u .bought)) (l .r) (c .both .result) (l .i) (omega arith) (c .both .ensures ∙ ap (λ (b : Bool). l .r && b) (same (s .args .side) _))
+    all-turn noLeg (s .args .t1 .legs) (s .args .t1 .len) (fits s) (λ u. sameBool (s .args .side) (u .bought)) (l .r) (c .both .result) (l .i) (omega arith) (c .both .ensures ∙ ap (λ (b : Bool). l .r && b) (beq-same (s .args .side) _))
     ∙ l .inv
 
 returns : tie.Need-returns Inv-loop μ-loop
