@@ -280,9 +280,15 @@ static inline void damage_market(struct opc_market *m) {
     *fields[below(MADE_COUNT(fields))] = one_in(2) ? 1000000001 : next_random() | 1ULL << 63;
 }
 
+/* The numbers that refuse an order, lowest first. */
+static const uint64_t refusals[] = {OPC_NOT_21_BYTES, OPC_BAD_LEG_COUNT, OPC_BAD_SYMBOL,
+                                    OPC_BAD_COUNT,    OPC_SERIES_TWICE,  OPC_ROOTS_DIFFER,
+                                    OPC_BAD_PRICE,    OPC_BAD_SETTING,   OPC_BAD_MARKET};
+#define REFUSALS MADE_COUNT(refusals)
+
 /*
- * Damages an order of three legs or more so that `number`, one of 1 and 3 to 10, applies. Two
- * damages do not undo each other if the higher number is damaged first.
+ * Damages an order of three legs or more so that `number`, one of the above, applies. A second
+ * damage does not undo the first if its number is lower.
  */
 static inline void damage(struct made_order *m, uint64_t number) {
     switch (number) {

@@ -468,18 +468,15 @@ static void test_null(void) {
 
 /* Two damages at a time: the lower number is given, and zeros beside it. */
 static void test_random_damaged(void) {
-    static const uint64_t numbers[] = {OPC_NOT_21_BYTES, OPC_BAD_LEG_COUNT, OPC_BAD_SYMBOL,
-                                       OPC_BAD_COUNT,    OPC_SERIES_TWICE,  OPC_ROOTS_DIFFER,
-                                       OPC_BAD_PRICE,    OPC_BAD_SETTING,   OPC_BAD_MARKET};
     for (size_t i = 0; i < RANDOM_CASES; i++) {
         struct made_order m = random_order(between(3, OPC_MOST_LEGS));
-        size_t low = below(MADE_COUNT(numbers));
-        size_t high = low + below(MADE_COUNT(numbers) - low);
-        damage(&m, numbers[high]);
+        size_t low = below(REFUSALS);
+        size_t high = low + below(REFUSALS - low);
+        damage(&m, refusals[high]);
         if (high > low) {
-            damage(&m, numbers[low]);
+            damage(&m, refusals[low]);
         }
-        expect_refused(&m, numbers[low]);
+        expect_refused(&m, refusals[low]);
     }
 }
 
