@@ -227,6 +227,46 @@ static void test_complex(void) {
     expect_answer(&m, (struct opc_answer){OPC_ACCEPTED, OPC_CLASS_DEBIT, OPC_SHAPE_BOX, 2});
 }
 
+/* The mirror of all legs bought, for limit orders only. */
+static void test_sell_sell(void) {
+    struct made_order m = no_legs();
+    calls(&m, -1, 45);
+    calls(&m, -1, 50);
+    m.price = -20;
+    expect_answer(&m, (struct opc_answer){OPC_ACCEPTED, OPC_CLASS_CREDIT, OPC_SHAPE_OTHER, 0});
+    m.price = -19;
+    expect_answer(&m, (struct opc_answer){OPC_CHECK_BUY_BUY, OPC_CLASS_CREDIT, OPC_SHAPE_OTHER, 0});
+    m.kind = OPC_KIND_MARKET;
+    expect_answer(&m, (struct opc_answer){OPC_ACCEPTED, OPC_CLASS_CREDIT, OPC_SHAPE_OTHER, 0});
+}
+
+/* Where each walk begins, and that the latest-walked contracts are matched first. */
+static void test_walks(void) {
+    struct made_order m = no_legs();
+    m.price = -1000;
+    calls(&m, 1, 30); /* meets the sale at 20 */
+    calls(&m, -1, 20);
+    calls(&m, -1, 40);
+    expect_answer(&m, (struct opc_answer){OPC_ACCEPTED, OPC_CLASS_CREDIT, OPC_SHAPE_OTHER, 1});
+    m = no_legs();
+    m.price = -1000;
+    puts_at(&m, 1, 30); /* meets the sale at 40 */
+    puts_at(&m, -1, 20);
+    puts_at(&m, -1, 40);
+    expect_answer(&m, (struct opc_answer){OPC_ACCEPTED, OPC_CLASS_CREDIT, OPC_SHAPE_OTHER, 1});
+    m = no_legs();
+    calls(&m, 2, 10);
+    calls(&m, 1, 20); /* closed first, so the sales make two pairings */
+    calls(&m, -2, 30);
+    expect_answer(&m, (struct opc_answer){OPC_ACCEPTED, OPC_CLASS_DEBIT, OPC_SHAPE_OTHER, 2});
+    m = no_legs();
+    add_leg(&m, 270319, 'C', 20000, 1);
+    add_leg(&m, 270618, 'C', 20000, -1);
+    add_leg(&m, 270917, 'C', 20000, 1);
+    expect_answer(&m,
+                  (struct opc_answer){OPC_ACCEPTED, OPC_CLASS_UNDETERMINED, OPC_SHAPE_OTHER, 1});
+}
+
 /* Sixteen calls that all pair, and one leg too many. */
 static void test_most_legs(void) {
     struct made_order m = no_legs();
@@ -287,6 +327,12 @@ static void test_price_limits(void) {
         expect((answer(&m).number == OPC_BAD_PRICE) == too_large, "the limit of a complex price");
     }
     struct made_order m = one_call();
+    opc_write_count(-1, m.counts);
+    m.price = 0;
+    expect_refused(&m, OPC_BAD_PRICE);
+    m.price = 1;
+    expect_refused(&m, OPC_BAD_PRICE);
+    m = one_call();
     m.price = 1000000000000;
     expect_answer(&m, (struct opc_answer){OPC_ACCEPTED, OPC_CLASS_DEBIT, OPC_SHAPE_OTHER, 0});
 }
@@ -407,6 +453,9 @@ static void test_flags(void) {
     expect(answer(&m).number == OPC_CHECK_CALL, "a market order is not tested against a call");
     m.opening = 3;
     expect(answer(&m).number == OPC_ACCEPTED, "a market order in the opening is tested");
+    m.kind = OPC_KIND_LIMIT;
+    expect(answer(&m).number == OPC_CHECK_CALL, "a limit order in the opening is not tested");
+    m.kind = OPC_KIND_MARKET;
     m.opening = 0;
     m.settings.adjusted = 4;
     expect(answer(&m).number == OPC_ACCEPTED, "an adjusted class is tested against a call");
@@ -433,16 +482,70 @@ static void test_references(void) {
     expect(answer(&m).number == OPC_ACCEPTED, "the NBO is the reference");
     m.market.nbb = 1000;
     expect(answer(&m).number == OPC_CHECK_TICK_DISTANCE, "locked: the close is the reference");
+    m.market.own_offer = 500;
     m.market.phase = OPC_PHASE_HALT;
     expect(answer(&m).number == OPC_ACCEPTED, "halt: the NBO is the reference");
     m.market.phase = OPC_PHASE_OPEN;
-    m.market.own_offer = 500;
     expect(answer(&m).number == OPC_CHECK_TICK_DISTANCE, "locked: the own offer is the reference");
     opc_write_count(-1, m.counts);
     m.price = -400;
     expect(answer(&m).number == OPC_ACCEPTED, "locked: no own bid");
     m.market.own_bid = 500;
     expect(answer(&m).number == OPC_CHECK_TICK_DISTANCE, "locked: the own bid is the reference");
+}
+
+/* Each distance and each tick decides in its own band, for a buy and for a sell. */
+static void test_bands(void) {
+    static const struct {
+        uint64_t reference, distance;
+    } bands[] = {
+        {999, 2 * 7},     {1000, 30 * 7},    {2999, 30 * 7},    {3000, 400 * 11},
+        {9999, 400 * 11}, {10000, 500 * 11}, {30000, 500 * 11},
+    };
+    for (size_t i = 0; i < MADE_COUNT(bands); i++) {
+        struct made_order m = one_call();
+        m.settings.tick_below_3000 = 7;
+        m.settings.tick_from_3000 = 11;
+        m.settings.atd_below_1000 = 2;
+        m.settings.atd_to_2999 = 30;
+        m.settings.atd_to_9999 = 400;
+        m.settings.atd_from_10000 = 500;
+        m.market.nbb = m.market.nbo = bands[i].reference;
+        m.market.phase = OPC_PHASE_HALT;
+        m.price = (int64_t)(bands[i].reference + bands[i].distance);
+        expect(answer(&m).number == OPC_ACCEPTED, "rejected at the distance of this band");
+        m.price++;
+        expect(answer(&m).number == OPC_CHECK_TICK_DISTANCE,
+               "accepted beyond this band's distance");
+        opc_write_count(-1, m.counts);
+        m.price = (int64_t)bands[i].distance - (int64_t)bands[i].reference;
+        if (m.price < -1) {
+            expect(answer(&m).number == OPC_ACCEPTED, "rejected at the distance of this band");
+            m.price++;
+            expect(answer(&m).number == OPC_CHECK_TICK_DISTANCE,
+                   "accepted beyond this band's distance");
+        }
+    }
+}
+
+/* What is allowed over a maximum of 5 dollars: the percentage, between the presets. */
+static void test_presets(void) {
+    static const struct {
+        uint64_t percentage, minimum, maximum;
+        int64_t most;
+    } cases[] = {
+        {300, 0, 600, 5150},        {300, 200, 600, 5200}, {300, 0, 100, 5100}, {0, 0, 600, 5000},
+        {10000, 0, 1000000, 10000}, {3, 0, 600, 5001},     {10000, 0, 0, 5000},
+    };
+    for (size_t i = 0; i < MADE_COUNT(cases); i++) {
+        struct made_order m = vertical(cases[i].most);
+        m.settings.percentage = cases[i].percentage;
+        m.settings.preset_minimum = cases[i].minimum;
+        m.settings.preset_maximum = cases[i].maximum;
+        expect(answer(&m).number == OPC_ACCEPTED, "rejected at the maximum value");
+        m.price++;
+        expect(answer(&m).number == OPC_CHECK_MAXIMUM_VALUE, "accepted above the maximum value");
+    }
 }
 
 static void test_null(void) {
@@ -501,6 +604,8 @@ static void test_random_valid(void) {
 int main(void) {
     test_simple();
     test_complex();
+    test_sell_sell();
+    test_walks();
     test_most_legs();
     test_most_pairings();
     test_refused();
@@ -511,6 +616,8 @@ int main(void) {
     test_switches();
     test_flags();
     test_references();
+    test_bands();
+    test_presets();
     test_null();
     test_random_damaged();
     test_random_valid();
