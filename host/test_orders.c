@@ -2,15 +2,21 @@
  * Holds the order check to exact answers, and its inline wrapper to the raw entry. Exit status 1
  * and a message on the first failure, one line with the number of checks otherwise.
  */
+#define _DEFAULT_SOURCE /* for mmap and its anonymous pages */
 #include "made_orders.h"
 #include "option_price_check.h"
 
 #include <stdlib.h>
+#include <sys/mman.h>
+#include <unistd.h>
 
 #define RANDOM_CASES 100000
-/* The library's own code is not instrumented, so bytes around lent bytes show a stray write. */
+/*
+ * The library's own code is not instrumented. So lent bytes end where a page begins that may not be
+ * touched: a read or a write past them ends the test. Bytes before them show a stray write.
+ */
 #define GUARD 16
-#define LARGEST (MADE_LEGS * OPC_SYMBOL_LENGTH)
+#define LARGEST (GUARD + MADE_LEGS * OPC_SYMBOL_LENGTH)
 
 /* The order tried last, for the message of a failure. */
 static struct made_order now;
@@ -98,31 +104,58 @@ static void expect_limits(const struct opc_answer *a, size_t legs) {
     }
 }
 
+/* The first byte of a page that may not be touched, after one that may. */
+static uint8_t *forbidden_page(void) {
+    size_t page = (size_t)sysconf(_SC_PAGESIZE);
+    int private_memory = MAP_PRIVATE | MAP_ANONYMOUS;
+    uint8_t *pages = mmap(NULL, 2 * page, PROT_READ | PROT_WRITE, private_memory, -1, 0);
+    if (pages == MAP_FAILED || mprotect(pages + page, page, PROT_NONE) != 0) {
+        perror("test_orders: a forbidden page");
+        exit(2);
+    }
+    return pages + page;
+}
+
+/* Bytes lent up to a forbidden page, with a copy of them and of the guard before them. */
+struct lent_bytes {
+    uint8_t *end;
+    size_t len;
+    uint8_t before[LARGEST];
+};
+
+static const uint8_t *lend_bytes(struct lent_bytes *lent, const uint8_t *bytes, size_t len) {
+    if (lent->end == NULL) {
+        lent->end = forbidden_page();
+    }
+    lent->len = len;
+    memset(lent->before, (int)below(256), GUARD);
+    memcpy(lent->before + GUARD, bytes, len);
+    memcpy(lent->end - len - GUARD, lent->before, GUARD + len);
+    return lent->end - len;
+}
+
+static bool are_kept(const struct lent_bytes *lent) {
+    return memcmp(lent->end - lent->len - GUARD, lent->before, GUARD + lent->len) == 0;
+}
+
 /*
- * Asks the entry and the wrapper, and sees that the lent bytes and those around them are kept. The
+ * Asks the entry and the wrapper, and sees that the lent bytes and those before them are kept. The
  * entry is asked twice with different garbage in its lent numbers, so one that it left unset shows.
  */
 static struct opc_answer answer(const struct made_order *made) {
-    uint8_t symbols[GUARD + LARGEST + GUARD], symbols_before[sizeof symbols];
-    uint8_t counts[GUARD + LARGEST + GUARD], counts_before[sizeof counts];
+    static struct lent_bytes symbols, counts;
     struct opc_order order = lend(made);
     uint64_t garbage = next_random();
     now = *made;
-    memset(symbols, (int)below(256), sizeof symbols);
-    memset(counts, (int)below(256), sizeof counts);
-    memcpy(symbols + GUARD, made->symbols, made->symbols_len);
-    memcpy(counts + GUARD, made->counts, made->counts_len);
-    memcpy(symbols_before, symbols, sizeof symbols);
-    memcpy(counts_before, counts, sizeof counts);
-    order.symbols = symbols + GUARD;
-    order.counts = counts + GUARD;
+    order.symbols = lend_bytes(&symbols, made->symbols, made->symbols_len);
+    order.counts = lend_bytes(&counts, made->counts, made->counts_len);
     struct opc_answer raw = raw_answer(&order, &made->settings, &made->market, garbage);
     struct opc_answer again = raw_answer(&order, &made->settings, &made->market, ~garbage);
     struct opc_answer wrapped = opc_answer_order(&order, &made->settings, &made->market);
     expect(same(&raw, &again), "a lent number is not set");
     expect(same(&raw, &wrapped), "the wrapper gives another answer");
-    expect(memcmp(symbols, symbols_before, sizeof symbols) == 0, "a symbol byte is not kept");
-    expect(memcmp(counts, counts_before, sizeof counts) == 0, "a count byte is not kept");
+    expect(are_kept(&symbols), "a symbol byte is not kept");
+    expect(are_kept(&counts), "a count byte is not kept");
     expect_limits(&raw, legs_of(made));
     return raw;
 }

@@ -125,7 +125,7 @@ static inline uint64_t opc_write_symbol_parts(const struct opc_symbol_parts *par
                             parts->strike, out, out_len, number);
 }
 
-/* Whether an order is worth paying for (debit), worth being paid for (credit), or open. */
+/* Whether an order is for certain one to pay for (debit) or one to be paid for (credit). */
 enum opc_class { OPC_CLASS_UNDETERMINED = 0, OPC_CLASS_DEBIT = 1, OPC_CLASS_CREDIT = 2 };
 
 enum opc_shape {
