@@ -22,16 +22,45 @@
 extern "C" {
 #endif
 
-/* The numbers that an entry can give. The words in front say whose doing a refusal is. */
+/*
+ * The numbers that an entry can give. The words in front say whose doing a refusal is; 20 to 25 are
+ * the exchange's own checks of an order that is not refused.
+ */
 enum opc_number {
-    /* Not refused. */
+    /* Not refused, and not rejected by a check. */
     OPC_ACCEPTED = 0,
-    /* The host: the bytes to read are not 21. */
+    /* The host: the bytes to read are not 21, or for an order not 21 for each 8 bytes of counts. */
     OPC_NOT_21_BYTES = 1,
     /* The host: there are fewer than 21 bytes to write in. */
     OPC_SHORT_BUFFER = 2,
+    /* The trading firm: an order without a leg, or with more than 16. */
+    OPC_BAD_LEG_COUNT = 3,
     /* The trading firm: a symbol, or the parts of one, outside the layout. */
-    OPC_BAD_SYMBOL = 4
+    OPC_BAD_SYMBOL = 4,
+    /* The trading firm: a leg's count is not 1 to 10000 in size. */
+    OPC_BAD_COUNT = 5,
+    /* The trading firm: two legs of one series (the same symbol). */
+    OPC_SERIES_TWICE = 6,
+    /* The trading firm: the legs' roots differ. */
+    OPC_ROOTS_DIFFER = 7,
+    /* The trading firm: the price is too large, or has the wrong sign for an order of one leg. */
+    OPC_BAD_PRICE = 8,
+    /* The exchange's settings: one of them is outside its limits. */
+    OPC_BAD_SETTING = 9,
+    /* The feed: the phase or a market value is outside its limits. */
+    OPC_BAD_MARKET = 10,
+    /* Rejected by the put check. */
+    OPC_CHECK_PUT = 20,
+    /* Rejected by the call check. */
+    OPC_CHECK_CALL = 21,
+    /* Rejected by the buy-buy/sell-sell check. */
+    OPC_CHECK_BUY_BUY = 22,
+    /* Rejected by the debit/credit check. */
+    OPC_CHECK_DEBIT_CREDIT = 23,
+    /* Rejected by the maximum value check. */
+    OPC_CHECK_MAXIMUM_VALUE = 24,
+    /* Rejected by the tick distance check. */
+    OPC_CHECK_TICK_DISTANCE = 25
 };
 
 /*
@@ -94,6 +123,195 @@ static inline uint64_t opc_write_symbol_parts(const struct opc_symbol_parts *par
                                               size_t out_len, uint64_t *number) {
     return opc_write_symbol(parts->root, parts->year, parts->month, parts->day, parts->option_type,
                             parts->strike, out, out_len, number);
+}
+
+/* Whether an order is for certain one to pay for (debit) or one to be paid for (credit). */
+enum opc_class { OPC_CLASS_UNDETERMINED = 0, OPC_CLASS_DEBIT = 1, OPC_CLASS_CREDIT = 2 };
+
+enum opc_shape {
+    OPC_SHAPE_OTHER = 0,
+    OPC_SHAPE_VERTICAL = 1,
+    OPC_SHAPE_TRUE_BUTTERFLY = 2,
+    OPC_SHAPE_SKEWED_BUTTERFLY = 3,
+    OPC_SHAPE_BOX = 4
+};
+
+/* The kind of an order: 0 is limit, any other value market. */
+enum opc_kind { OPC_KIND_LIMIT = 0, OPC_KIND_MARKET = 1 };
+
+enum opc_phase { OPC_PHASE_PRE_OPENING = 0, OPC_PHASE_OPEN = 1, OPC_PHASE_HALT = 2 };
+
+#define OPC_MOST_LEGS 16
+/* A leg's count is 8 bytes: two's complement, low byte first. */
+#define OPC_COUNT_LENGTH 8
+
+/* Writes a count as the order check reads it; whether it is within the limits is left to that. */
+static inline void opc_write_count(int64_t count, uint8_t out[OPC_COUNT_LENGTH]) {
+    for (size_t i = 0; i < OPC_COUNT_LENGTH; i++) {
+        out[i] = (uint8_t)((uint64_t)count >> (8 * i));
+    }
+}
+
+/*
+ * An order of 1 to 16 legs. Money is in mills (0.001 dollar). A flag: 0 is no, any other value yes.
+ *
+ * A leg is a symbol and a signed count, positive to buy and negative to sell, 1 to 10000 in size.
+ * The price is for one unit, which has the counts divided by their greatest common divisor:
+ * positive is paid, negative received, at most 1000000000000 in size; of one leg bought it is above
+ * 0, of one leg sold below.
+ */
+struct opc_order {
+    const uint8_t *symbols; /* the legs' symbols end to end, 21 bytes each */
+    size_t symbols_len;
+    const uint8_t *counts; /* the legs' counts in the same sequence, 8 bytes each */
+    size_t counts_len;
+    int64_t price;    /* of a market order the price at which it would execute */
+    uint64_t kind;    /* as in enum opc_kind */
+    uint64_t stop;    /* flag: a stop order */
+    uint64_t manual;  /* flag: manual routing */
+    uint64_t opening; /* flag: in the opening process */
+};
+
+/*
+ * The exchange's settings for a class of options. Money is in mills, a distance in ticks. A switch
+ * or a flag: 0 is no, any other value yes.
+ */
+struct opc_settings {
+    uint64_t check_20;        /* switch of the put check */
+    uint64_t check_21;        /* switch of the call check */
+    uint64_t check_22;        /* switch of the buy-buy/sell-sell check */
+    uint64_t check_23;        /* switch of the debit/credit check */
+    uint64_t check_24;        /* switch of the maximum value check */
+    uint64_t check_25;        /* switch of the tick distance check */
+    uint64_t check_26;        /* switch of the quote inversion check; no order is tested by it */
+    uint64_t tick_below_3000; /* the tick at a reference below 3000; 1 to 1000 mills */
+    uint64_t tick_from_3000;  /* the tick at a reference of 3000 or more; 1 to 1000 mills */
+    uint64_t net_increment;   /* the least premium of a leg in check 22; 1 to 1000 mills */
+    uint64_t atd_below_1000;  /* acceptable tick distance at a reference below 1000; 2 to 1000 */
+    uint64_t atd_to_2999;     /* the same at 1000 to 2999; 2 to 1000 ticks */
+    uint64_t atd_to_9999;     /* the same at 3000 to 9999; 2 to 1000 ticks */
+    uint64_t atd_from_10000;  /* the same at 10000 or more; 2 to 1000 ticks */
+    uint64_t percentage;      /* allowed over the maximum value, in 0.01 percent; 0 to 10000 */
+    uint64_t preset_minimum;  /* the least that is allowed; 0 to 1000000 mills */
+    uint64_t preset_maximum;  /* the most; 0 to 1000000 mills, not below the least */
+    uint64_t set_ticks;       /* distance in check 26; 0 to 1000 ticks */
+    uint64_t adjusted;        /* flag: an adjusted class, which check 21 leaves out */
+    uint64_t european_index;  /* flag: European index style, where expiries are not paired */
+};
+
+/* The settings of document 01's examples. In C++ such an initializer needs C++20. */
+#define OPC_EXAMPLE_SETTINGS                                                                       \
+    {                                                                                              \
+        .check_20 = 1, .check_21 = 1, .check_22 = 1, .check_23 = 1, .check_24 = 1, .check_25 = 1,  \
+        .check_26 = 1, .tick_below_3000 = 10, .tick_from_3000 = 10, .net_increment = 10,           \
+        .atd_below_1000 = 5, .atd_to_2999 = 5, .atd_to_9999 = 5, .atd_from_10000 = 5,              \
+        .percentage = 300, .preset_minimum = 0, .preset_maximum = 600, .set_ticks = 4,             \
+        .adjusted = 0, .european_index = 0                                                         \
+    }
+
+/*
+ * The market in the order's class, and for an order of one leg in its series. Each price is in
+ * mills, 1 to 1000000000, and 0 where it is missing. A flag: 0 is no, any other value yes.
+ */
+struct opc_market {
+    uint64_t phase;          /* as in enum opc_phase; no other value */
+    uint64_t open_elsewhere; /* flag: the series is open on another exchange */
+    uint64_t extended_hours; /* flag: extended hours, which check 21 leaves out */
+    uint64_t underlying;     /* last value of the underlying */
+    uint64_t nbb;            /* national best bid */
+    uint64_t nbo;            /* national best offer */
+    uint64_t own_bid;        /* the exchange's own best bid */
+    uint64_t own_offer;      /* the exchange's own best offer */
+    uint64_t previous_close;
+};
+
+/* An open market with every value missing. In C++ such an initializer needs C++20. */
+#define OPC_EMPTY_MARKET                                                                           \
+    {                                                                                              \
+        .phase = OPC_PHASE_OPEN, .open_elsewhere = 0, .extended_hours = 0, .underlying = 0,        \
+        .nbb = 0, .nbo = 0, .own_bid = 0, .own_offer = 0, .previous_close = 0                      \
+    }
+
+/* The answer to an order; class, shape and pairings are 0 on a refusal. */
+struct opc_answer {
+    uint64_t number;   /* as in enum opc_number */
+    uint64_t class_;   /* as in enum opc_class (`class` is a word of C++) */
+    uint64_t shape;    /* as in enum opc_shape */
+    uint64_t pairings; /* matches of two legs that were made; 0 to 15 */
+};
+
+/*
+ * Checks an order against the settings and the market. The fields, with their limits and units, are
+ * those of struct opc_order, opc_settings and opc_market, in the same sequence.
+ *
+ * Returns the first of these that applies:
+ *   the order is refused, by the doing of the host,
+ *     OPC_NOT_21_BYTES         counts_len is no multiple of 8, or symbols_len is not 21 for each 8;
+ *   of the trading firm,
+ *     OPC_BAD_LEG_COUNT        no leg, or more than 16, whatever they hold;
+ *     OPC_BAD_SYMBOL           some leg's symbol is outside the layout;
+ *     OPC_BAD_COUNT            some leg's count is not 1 to 10000 in size;
+ *     OPC_SERIES_TWICE         some two legs have one symbol;
+ *     OPC_ROOTS_DIFFER         some two legs have different roots;
+ *     OPC_BAD_PRICE            the price is above 1000000000000 in size, or one leg is bought at a
+ *                              price not above 0, or one leg is sold at a price not below 0;
+ *   of the exchange's settings,
+ *     OPC_BAD_SETTING          one is outside its limits, used or not, switched on or off;
+ *   of the feed,
+ *     OPC_BAD_MARKET           the phase or a value is outside its limits, used or not;
+ *   the order is valid, and rejected by a check that is switched on,
+ *     OPC_CHECK_PUT            one leg, a put bought at its strike or above; no market order in
+ *                              the opening process;
+ *     OPC_CHECK_CALL           one leg, a call bought at the underlying's value or above; not where
+ *                              that is missing, in an adjusted class, in extended hours, or for a
+ *                              market order in the opening process;
+ *     OPC_CHECK_BUY_BUY        a limit order of two or more legs, all bought (all sold), that pays
+ *                              (receives) less than the unit's contracts times the net increment;
+ *     OPC_CHECK_DEBIT_CREDIT   two or more legs, a debit at a negative price (limit orders only),
+ *                              or a credit at a positive price;
+ *     OPC_CHECK_MAXIMUM_VALUE  a vertical, a true butterfly or a box, at a price whose size is
+ *                              above its maximum value and what is allowed over that;
+ *     OPC_CHECK_TICK_DISTANCE  one leg, a limit order without stop or manual flag, bought more than
+ *                              the acceptable distance above its reference, or sold more below;
+ *   otherwise
+ *     OPC_ACCEPTED.
+ *
+ * *class_, *shape and *pairings are set to the order's class, shape and number of pairings where it
+ * is accepted or rejected by a check, and to 0 where it is refused (1 to 10). The sequence of the
+ * legs does not matter to any of the four.
+ */
+uint64_t opc_check_order(
+    const uint8_t *symbols, size_t symbols_len, const uint8_t *counts, size_t counts_len,
+    int64_t price, uint64_t kind, uint64_t stop, uint64_t manual, uint64_t opening,
+    /* settings */
+    uint64_t check_20, uint64_t check_21, uint64_t check_22, uint64_t check_23, uint64_t check_24,
+    uint64_t check_25, uint64_t check_26, uint64_t tick_below_3000, uint64_t tick_from_3000,
+    uint64_t net_increment, uint64_t atd_below_1000, uint64_t atd_to_2999, uint64_t atd_to_9999,
+    uint64_t atd_from_10000, uint64_t percentage, uint64_t preset_minimum, uint64_t preset_maximum,
+    uint64_t set_ticks, uint64_t adjusted, uint64_t european_index,
+    /* market */
+    uint64_t phase, uint64_t open_elsewhere, uint64_t extended_hours, uint64_t underlying,
+    uint64_t nbb, uint64_t nbo, uint64_t own_bid, uint64_t own_offer, uint64_t previous_close,
+    /* answer */
+    uint64_t *class_, uint64_t *shape, uint64_t *pairings);
+
+/* opc_check_order, with order, settings, market and answer in structs. */
+static inline struct opc_answer opc_answer_order(const struct opc_order *order,
+                                                 const struct opc_settings *settings,
+                                                 const struct opc_market *market) {
+    const struct opc_settings *s = settings;
+    const struct opc_market *m = market;
+    struct opc_answer answer;
+    answer.number = opc_check_order(
+        order->symbols, order->symbols_len, order->counts, order->counts_len, order->price,
+        order->kind, order->stop, order->manual, order->opening, s->check_20, s->check_21,
+        s->check_22, s->check_23, s->check_24, s->check_25, s->check_26, s->tick_below_3000,
+        s->tick_from_3000, s->net_increment, s->atd_below_1000, s->atd_to_2999, s->atd_to_9999,
+        s->atd_from_10000, s->percentage, s->preset_minimum, s->preset_maximum, s->set_ticks,
+        s->adjusted, s->european_index, m->phase, m->open_elsewhere, m->extended_hours,
+        m->underlying, m->nbb, m->nbo, m->own_bid, m->own_offer, m->previous_close, &answer.class_,
+        &answer.shape, &answer.pairings);
+    return answer;
 }
 
 #ifdef __cplusplus

@@ -1,0 +1,134 @@
+/*
+ * Calls the order check once for each of many valid orders of 1, 2, 4, 8 and 16 legs, all checks
+ * switched on, and prints a line for each call: legs and kind of order. host/measure runs it under
+ * callgrind, which counts the instructions of each call.
+ */
+#include "made_orders.h"
+#include "option_price_check.h"
+
+#include <stdlib.h>
+
+#define RANDOM_ORDERS 40
+
+/* A market in which check 25 has a reference and check 21 an underlying. */
+static const struct opc_market quoted = {.phase = OPC_PHASE_OPEN,
+                                         .underlying = 40000,
+                                         .nbb = 1180,
+                                         .nbo = 1200,
+                                         .own_bid = 1180,
+                                         .own_offer = 1210,
+                                         .previous_close = 1150};
+
+/* One bought, the next sold. */
+static int64_t by_turns(size_t leg) { return leg % 2 == 0 ? 1 : -1; }
+
+/*
+ * The typical order: a call bought, a vertical of calls, a box, and of 8 and 16 legs verticals of
+ * calls and puts in two and four expiries. It is accepted, so every check is reached.
+ */
+static void typical(struct made_order *m, size_t legs) {
+    static const uint64_t days[] = {270115, 270319, 270618, 270917};
+    for (size_t i = 0; i < legs; i++) {
+        bool call = i / 2 % 2 == 0;
+        uint64_t strike = call ? 20000 + 5000 * (i % 2) : 25000 - 5000 * (i % 2);
+        add_leg(m, days[i / 4 % 4], call ? 'C' : 'P', strike, 10 * by_turns(i));
+    }
+}
+
+/* Calls of one expiry, bought and sold by turns: every second leg pairs. */
+static void strikes(struct made_order *m, size_t legs) {
+    for (size_t i = 0; i < legs; i++) {
+        add_leg(m, 270115, 'C', 20000 + 1000 * i, 10 * by_turns(i));
+    }
+}
+
+/* Puts of one strike, bought and sold by turns: they pair in the second walk. */
+static void expiries(struct made_order *m, size_t legs) {
+    for (size_t i = 0; i < legs; i++) {
+        add_leg(m, 270101 + i, 'P', 20000, 10 * by_turns(i));
+    }
+}
+
+/* Nothing pairs, and check 22 adds up the sizes. */
+static void all_bought(struct made_order *m, size_t legs) {
+    for (size_t i = 0; i < legs; i++) {
+        add_leg(m, 270115 + i % 2, 'C', 20000 + 1000 * i, 1 + (int64_t)i);
+    }
+}
+
+/* The last call meets every other one: as many pairings as there can be. */
+static void one_against_all(struct made_order *m, size_t legs) {
+    for (size_t i = 0; i + 1 < legs; i++) {
+        add_leg(m, 270115, 'C', 20000 + 1000 * i, 1);
+    }
+    add_leg(m, 270115, 'C', 60000, legs == 1 ? 1 : -10000);
+}
+
+/* Neighbouring Fibonacci numbers: the greatest common divisor takes its most steps. */
+static void fibonacci(struct made_order *m, size_t legs) {
+    for (size_t i = 0; i < legs; i++) {
+        add_leg(m, 270115, 'P', 20000 + 1000 * i, by_turns(i) * (i % 2 == 0 ? 6765 : 4181));
+    }
+}
+
+static void reverse_legs(struct made_order *m) {
+    for (size_t i = 0, j = legs_of(m) - 1; i < j; i++, j--) {
+        exchange(symbol_at(m, i), symbol_at(m, j), OPC_SYMBOL_LENGTH);
+        exchange(count_at(m, i), count_at(m, j), OPC_COUNT_LENGTH);
+    }
+}
+
+static uint64_t check(const struct made_order *m, const char *kind, const char *sequence) {
+    struct opc_order order = lend(m);
+    struct opc_answer a = opc_answer_order(&order, &m->settings, &m->market);
+    printf("%zu %s%s\n", legs_of(m), kind, sequence);
+    return a.number;
+}
+
+static void expect(bool holds, const char *kind, size_t legs) {
+    if (!holds) {
+        fprintf(stderr, "instructions: another answer than meant, %zu legs, %s\n", legs, kind);
+        exit(1);
+    }
+}
+
+static bool is_valid(uint64_t number) { return number == OPC_ACCEPTED || number >= OPC_CHECK_PUT; }
+
+/* An order that pays 1.20 dollars, lent in the sequence in which it is made and in reverse. */
+static void check_kind(void (*add_legs)(struct made_order *, size_t), const char *kind,
+                       size_t legs) {
+    struct made_order m = no_legs();
+    m.price = 1200;
+    m.market = quoted;
+    add_legs(&m, legs);
+    uint64_t number = check(&m, kind, "");
+    expect(add_legs == typical ? number == OPC_ACCEPTED : is_valid(number), kind, legs);
+    if (legs > 1) {
+        reverse_legs(&m);
+        expect(check(&m, kind, ", reversed") == number, kind, legs);
+    }
+}
+
+static void check_random(size_t legs) {
+    for (size_t i = 0; i < RANDOM_ORDERS; i++) {
+        struct made_order m = random_order(legs);
+        struct opc_settings settings = OPC_EXAMPLE_SETTINGS;
+        m.settings = settings;
+        m.kind = OPC_KIND_LIMIT;
+        expect(is_valid(check(&m, "random", "")), "random", legs);
+    }
+}
+
+int main(void) {
+    static const size_t sizes[] = {1, 2, 4, 8, 16};
+    for (size_t i = 0; i < MADE_COUNT(sizes); i++) {
+        check_kind(typical, "typical", sizes[i]);
+        check_kind(strikes, "one expiry", sizes[i]);
+        check_kind(expiries, "one strike", sizes[i]);
+        check_kind(all_bought, "all bought", sizes[i]);
+        check_kind(one_against_all, "one against all", sizes[i]);
+        check_kind(fibonacci, "Fibonacci counts", sizes[i]);
+        check_random(sizes[i]);
+    }
+    return 0;
+}

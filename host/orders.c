@@ -1,0 +1,253 @@
+/*
+ * Checks the orders of document 01's examples, T1 to T12, through the proved library, and prints
+ * what it answers. Exit status 1 if an answer is another than expected.
+ */
+#include "option_price_check.h"
+
+#include <inttypes.h>
+#include <stdbool.h>
+#include <stdio.h>
+#include <stdlib.h>
+
+#define MOST_LEGS 4
+#define COUNT(array) (sizeof(array) / sizeof(array)[0])
+
+static const uint64_t root_xyz = 0x58595a202020; /* the bytes "XYZ   " */
+
+/* Third Fridays of 2027. */
+enum expiry { JANUARY, MARCH, JUNE, SEPTEMBER };
+
+static const struct {
+    const char *name;
+    uint64_t year, month, day;
+} expiries[] = {
+    [JANUARY] = {"Jan", 2027, 1, 15},
+    [MARCH] = {"Mar", 2027, 3, 19},
+    [JUNE] = {"Jun", 2027, 6, 18},
+    [SEPTEMBER] = {"Sep", 2027, 9, 17},
+};
+
+struct leg {
+    int64_t count; /* positive to buy, negative to sell */
+    enum expiry expiry;
+    uint64_t dollars; /* the strike */
+    char option_type;
+};
+
+static const struct leg t1[] = {
+    {-5, JANUARY, 20, 'C'}, {10, JANUARY, 30, 'C'}, {-5, JANUARY, 40, 'C'}};
+static const struct leg t2[] = {
+    {10, JANUARY, 20, 'C'}, {-20, JANUARY, 25, 'C'}, {10, JANUARY, 35, 'C'}};
+static const struct leg t2_at_30[] = {
+    {10, JANUARY, 20, 'C'}, {-20, JANUARY, 30, 'C'}, {10, JANUARY, 35, 'C'}};
+static const struct leg t3[] = {
+    {-20, JANUARY, 10, 'P'}, {40, JANUARY, 20, 'P'}, {-20, JANUARY, 30, 'P'}};
+static const struct leg t4[] = {
+    {5, JANUARY, 35, 'P'}, {-10, JANUARY, 45, 'P'}, {5, JANUARY, 50, 'P'}};
+static const struct leg t4_at_40[] = {
+    {5, JANUARY, 35, 'P'}, {-10, JANUARY, 40, 'P'}, {5, JANUARY, 50, 'P'}};
+static const struct leg t5[] = {
+    {1, JANUARY, 10, 'C'}, {-2, JANUARY, 20, 'C'}, {1, JANUARY, 15, 'P'}};
+static const struct leg t6[] = {
+    {-1, JANUARY, 20, 'C'}, {1, JANUARY, 45, 'C'}, {1, JANUARY, 20, 'P'}, {-1, JANUARY, 45, 'P'}};
+static const struct leg t7[] = {{-1, JANUARY, 45, 'C'}, {-1, JANUARY, 50, 'C'}};
+static const struct leg t8[] = {{1, MARCH, 20, 'C'}, {-1, JUNE, 20, 'C'}};
+static const struct leg t10[] = {{1, MARCH, 20, 'C'}, {-1, JUNE, 20, 'C'}, {1, SEPTEMBER, 20, 'C'}};
+static const struct leg t11_call[] = {{1, JANUARY, 5, 'C'}};
+static const struct leg t11_put[] = {{1, JANUARY, 18, 'P'}};
+static const struct leg t12[] = {{1, JANUARY, 20, 'C'}};
+
+/* What a case gives beside its legs and its price. */
+struct given {
+    const char *words;
+    uint64_t european_index, underlying, nbo;
+};
+
+static const struct given nothing = {"", 0, 0, 0};
+static const struct given european = {"European index", 1, 0, 0};
+static const struct given underlying_10 = {"underlying 10", 0, 10000, 0};
+static const struct given nbo_1_20 = {"NBO 1.20", 0, 0, 1200};
+
+struct order_case {
+    const char *name;
+    const struct leg *legs;
+    size_t len;
+    int64_t price;
+    const struct given *given;
+    /* Number, class, shape and pairings: document 01's where it names them, by its rules else. */
+    struct opc_answer expected;
+};
+
+#define LEGS(array) array, COUNT(array)
+
+static const struct order_case cases[] = {
+    {"T1", LEGS(t1), 15000, &nothing, {23, OPC_CLASS_CREDIT, OPC_SHAPE_TRUE_BUTTERFLY, 2}},
+    {"T2", LEGS(t2), -20000, &nothing, {0, OPC_CLASS_UNDETERMINED, OPC_SHAPE_SKEWED_BUTTERFLY, 2}},
+    {"T2", LEGS(t2_at_30), -20000, &nothing, {23, OPC_CLASS_DEBIT, OPC_SHAPE_SKEWED_BUTTERFLY, 2}},
+    {"T3", LEGS(t3), 20000, &nothing, {23, OPC_CLASS_CREDIT, OPC_SHAPE_TRUE_BUTTERFLY, 2}},
+    {"T4", LEGS(t4), -25000, &nothing, {0, OPC_CLASS_UNDETERMINED, OPC_SHAPE_SKEWED_BUTTERFLY, 2}},
+    {"T4", LEGS(t4_at_40), -25000, &nothing, {23, OPC_CLASS_DEBIT, OPC_SHAPE_SKEWED_BUTTERFLY, 2}},
+    {"T5", LEGS(t5), 8000, &nothing, {0, OPC_CLASS_UNDETERMINED, OPC_SHAPE_OTHER, 1}},
+    {"T6", LEGS(t6), -28000, &nothing, {24, OPC_CLASS_CREDIT, OPC_SHAPE_BOX, 2}},
+    {"T6", LEGS(t6), -24000, &nothing, {0, OPC_CLASS_CREDIT, OPC_SHAPE_BOX, 2}},
+    {"T7", LEGS(t7), -20, &nothing, {0, OPC_CLASS_CREDIT, OPC_SHAPE_OTHER, 0}},
+    {"T7", LEGS(t7), -19, &nothing, {22, OPC_CLASS_CREDIT, OPC_SHAPE_OTHER, 0}},
+    {"T8", LEGS(t8), -1000, &nothing, {0, OPC_CLASS_CREDIT, OPC_SHAPE_OTHER, 1}},
+    {"T8", LEGS(t8), -1000, &european, {0, OPC_CLASS_UNDETERMINED, OPC_SHAPE_OTHER, 0}},
+    {"T9", LEGS(t6), -25600, &nothing, {0, OPC_CLASS_CREDIT, OPC_SHAPE_BOX, 2}},
+    {"T9", LEGS(t6), -25601, &nothing, {24, OPC_CLASS_CREDIT, OPC_SHAPE_BOX, 2}},
+    {"T10", LEGS(t10), 0, &nothing, {0, OPC_CLASS_UNDETERMINED, OPC_SHAPE_OTHER, 1}},
+    {"T11", LEGS(t11_call), 8000, &underlying_10, {0, OPC_CLASS_DEBIT, OPC_SHAPE_OTHER, 0}},
+    {"T11", LEGS(t11_call), 11000, &underlying_10, {21, OPC_CLASS_DEBIT, OPC_SHAPE_OTHER, 0}},
+    {"T11", LEGS(t11_put), 17999, &nothing, {0, OPC_CLASS_DEBIT, OPC_SHAPE_OTHER, 0}},
+    {"T11", LEGS(t11_put), 18000, &nothing, {20, OPC_CLASS_DEBIT, OPC_SHAPE_OTHER, 0}},
+    {"T12", LEGS(t12), 1250, &nbo_1_20, {0, OPC_CLASS_DEBIT, OPC_SHAPE_OTHER, 0}},
+    {"T12", LEGS(t12), 1251, &nbo_1_20, {25, OPC_CLASS_DEBIT, OPC_SHAPE_OTHER, 0}},
+};
+
+static const char *meaning(uint64_t number) {
+    switch (number) {
+    case OPC_ACCEPTED:
+        return "accepted";
+    case OPC_NOT_21_BYTES:
+        return "not 21 bytes";
+    case OPC_BAD_LEG_COUNT:
+        return "number of legs";
+    case OPC_BAD_SYMBOL:
+        return "outside layout";
+    case OPC_BAD_COUNT:
+        return "count";
+    case OPC_SERIES_TWICE:
+        return "series twice";
+    case OPC_ROOTS_DIFFER:
+        return "roots differ";
+    case OPC_BAD_PRICE:
+        return "price";
+    case OPC_BAD_SETTING:
+        return "setting";
+    case OPC_BAD_MARKET:
+        return "market value";
+    case OPC_CHECK_PUT:
+        return "put check";
+    case OPC_CHECK_CALL:
+        return "call check";
+    case OPC_CHECK_BUY_BUY:
+        return "buy-buy/sell-sell";
+    case OPC_CHECK_DEBIT_CREDIT:
+        return "debit/credit";
+    case OPC_CHECK_MAXIMUM_VALUE:
+        return "maximum value";
+    case OPC_CHECK_TICK_DISTANCE:
+        return "tick distance";
+    default:
+        return "unknown";
+    }
+}
+
+static const char *class_name(uint64_t class_) {
+    static const char *const names[] = {
+        [OPC_CLASS_UNDETERMINED] = "undetermined",
+        [OPC_CLASS_DEBIT] = "debit",
+        [OPC_CLASS_CREDIT] = "credit",
+    };
+    return class_ < COUNT(names) ? names[class_] : "unknown";
+}
+
+static const char *shape_name(uint64_t shape) {
+    static const char *const names[] = {
+        [OPC_SHAPE_OTHER] = "other",
+        [OPC_SHAPE_VERTICAL] = "vertical",
+        [OPC_SHAPE_TRUE_BUTTERFLY] = "true butterfly",
+        [OPC_SHAPE_SKEWED_BUTTERFLY] = "skewed butterfly",
+        [OPC_SHAPE_BOX] = "box",
+    };
+    return shape < COUNT(names) ? names[shape] : "unknown";
+}
+
+/* Writes a leg's 21 symbol bytes and the 8 bytes of its count. */
+static void write_leg(const struct leg *leg, uint8_t *symbol, uint8_t *count) {
+    struct opc_symbol_parts parts = {
+        .root = root_xyz,
+        .year = expiries[leg->expiry].year,
+        .month = expiries[leg->expiry].month,
+        .day = expiries[leg->expiry].day,
+        .option_type = (uint8_t)leg->option_type,
+        .strike = leg->dollars * 1000,
+    };
+    uint64_t number;
+    opc_write_symbol_parts(&parts, symbol, OPC_SYMBOL_LENGTH, &number);
+    if (number != OPC_ACCEPTED) {
+        fprintf(stderr, "orders: a leg has no symbol (number %" PRIu64 ")\n", number);
+        exit(1);
+    }
+    opc_write_count(leg->count, count);
+}
+
+static struct opc_answer answer_to(const struct order_case *c) {
+    uint8_t symbols[MOST_LEGS * OPC_SYMBOL_LENGTH];
+    uint8_t counts[MOST_LEGS * OPC_COUNT_LENGTH];
+    for (size_t i = 0; i < c->len; i++) {
+        write_leg(&c->legs[i], symbols + i * OPC_SYMBOL_LENGTH, counts + i * OPC_COUNT_LENGTH);
+    }
+    struct opc_order order = {
+        .symbols = symbols,
+        .symbols_len = c->len * OPC_SYMBOL_LENGTH,
+        .counts = counts,
+        .counts_len = c->len * OPC_COUNT_LENGTH,
+        .price = c->price,
+        .kind = OPC_KIND_LIMIT,
+    };
+    struct opc_settings settings = OPC_EXAMPLE_SETTINGS;
+    struct opc_market market = OPC_EMPTY_MARKET;
+    settings.european_index = c->given->european_index;
+    market.underlying = c->given->underlying;
+    market.nbo = c->given->nbo;
+    return opc_answer_order(&order, &settings, &market);
+}
+
+static void print_legs(const struct order_case *c, int width) {
+    for (size_t i = 0; i < c->len; i++) {
+        const struct leg *leg = &c->legs[i];
+        width -= printf("%s%+" PRId64 " %s %" PRIu64 "%c", i == 0 ? "" : "  ", leg->count,
+                        expiries[leg->expiry].name, leg->dollars, leg->option_type);
+    }
+    printf("%*s", width, "");
+}
+
+static void print_price(int64_t price, int width) {
+    int64_t size = price < 0 ? -price : price;
+    char text[32];
+    snprintf(text, sizeof text, "%s%" PRId64 ".%03" PRId64, price < 0 ? "-" : "", size / 1000,
+             size % 1000);
+    printf("%*s", width, text);
+}
+
+static bool same(const struct opc_answer *a, const struct opc_answer *b) {
+    return a->number == b->number && a->class_ == b->class_ && a->shape == b->shape &&
+           a->pairings == b->pairings;
+}
+
+static bool show(const struct order_case *c) {
+    struct opc_answer a = answer_to(c);
+    bool expected = same(&a, &c->expected);
+    printf("%-4s  %-14s  ", c->name, c->given->words);
+    print_legs(c, 46);
+    print_price(c->price, 9);
+    printf("  %2" PRIu64 " %-17s", a.number, meaning(a.number));
+    printf("  %" PRIu64 " %-12s", a.class_, class_name(a.class_));
+    printf("  %" PRIu64 " %-16s", a.shape, shape_name(a.shape));
+    printf("  %" PRIu64 " %s", a.pairings, a.pairings == 1 ? "pairing" : "pairings");
+    printf("%s\n", expected ? "" : "  NOT AS EXPECTED");
+    return expected;
+}
+
+int main(void) {
+    bool expected = true;
+    printf("Orders (root XYZ, third Fridays of 2027, strikes and prices in dollars)\n");
+    printf("%-4s  %-14s  %-46s%9s  %-20s  %-14s  %-18s  %s\n", "case", "given", "legs", "price",
+           "number", "class", "shape", "pairings");
+    for (size_t i = 0; i < COUNT(cases); i++) {
+        expected = show(&cases[i]) && expected;
+    }
+    return expected ? EXIT_SUCCESS : EXIT_FAILURE;
+}

@@ -1,0 +1,165 @@
+/*
+ * Measures the deepest stack of each entry: it is called on a stack of its own, which is painted
+ * before, over valid and damaged inputs of every size. Prints rows of a Markdown table. Exit status
+ * 1 if an entry needs as much as the limit.
+ *
+ * What is counted: the frame of the function that calls, with the arguments in it, the return
+ * address, and everything below that was written to.
+ */
+#define _XOPEN_SOURCE 700
+#include "made_orders.h"
+#include "option_price_check.h"
+
+#include <stdlib.h>
+#include <ucontext.h>
+
+#define STACK_BYTES 65536
+#define STACK_WORDS (STACK_BYTES / sizeof(uint64_t))
+#define LIMIT 16384
+#define INPUTS_PER_KIND 10000
+
+static _Alignas(64) uint64_t stack[STACK_WORDS];
+static uint64_t paint[STACK_WORDS];
+static ucontext_t host, entry;
+
+/* The inputs of the next call, and what it lends. */
+static struct made_order made;
+static struct opc_symbol_parts parts;
+static uint8_t buffer[64];
+static size_t buffer_len;
+static uint64_t number;
+static struct opc_answer answer;
+
+/* Calls through a pointer that the compiler does not know: no entry is optimized away. */
+static void do_nothing(void) {}
+static void (*volatile nothing)(void) = do_nothing;
+
+static void call_nothing(void) { nothing(); }
+
+static void call_read(void) { number = opc_read_symbol_parts(buffer, buffer_len, &parts); }
+
+static void call_write(void) { opc_write_symbol_parts(&parts, buffer, buffer_len, &number); }
+
+static void call_check(void) {
+    const struct opc_settings *s = &made.settings;
+    const struct opc_market *m = &made.market;
+    answer.number = opc_check_order(
+        made.symbols, made.symbols_len, made.counts, made.counts_len, made.price, made.kind,
+        made.stop, made.manual, made.opening, s->check_20, s->check_21, s->check_22, s->check_23,
+        s->check_24, s->check_25, s->check_26, s->tick_below_3000, s->tick_from_3000,
+        s->net_increment, s->atd_below_1000, s->atd_to_2999, s->atd_to_9999, s->atd_from_10000,
+        s->percentage, s->preset_minimum, s->preset_maximum, s->set_ticks, s->adjusted,
+        s->european_index, m->phase, m->open_elsewhere, m->extended_hours, m->underlying, m->nbb,
+        m->nbo, m->own_bid, m->own_offer, m->previous_close, &answer.class_, &answer.shape,
+        &answer.pairings);
+}
+
+static void on_painted_stack(void (*call)(void)) {
+    if (getcontext(&entry) != 0) {
+        perror("stack: getcontext");
+        exit(2);
+    }
+    entry.uc_stack.ss_sp = stack;
+    entry.uc_stack.ss_size = sizeof stack;
+    entry.uc_link = &host;
+    makecontext(&entry, call, 0);
+    if (swapcontext(&host, &entry) != 0) {
+        perror("stack: swapcontext");
+        exit(2);
+    }
+}
+
+/* Random paint: a value that a call writes is not the paint that was there. */
+static void paint_stack(void) {
+    for (size_t i = 0; i < STACK_WORDS; i++) {
+        stack[i] = paint[i] = next_random();
+    }
+}
+
+/* The bytes from the top of the stack to the lowest word that was written. */
+static size_t deepest(void) {
+    size_t unused = 0;
+    while (unused < STACK_WORDS && stack[unused] == paint[unused]) {
+        unused++;
+    }
+    return STACK_BYTES - unused * sizeof(uint64_t);
+}
+
+static size_t read_inputs(void) {
+    size_t inputs = 0;
+    for (; inputs < INPUTS_PER_KIND; inputs++) {
+        struct made_order m = random_order(1);
+        memcpy(buffer, m.symbols, OPC_SYMBOL_LENGTH);
+        buffer_len = one_in(4) ? below(sizeof buffer) : OPC_SYMBOL_LENGTH;
+        if (one_in(2)) {
+            buffer[below(OPC_SYMBOL_LENGTH)] = (uint8_t)below(256);
+        }
+        on_painted_stack(call_read);
+    }
+    return inputs;
+}
+
+static size_t write_inputs(void) {
+    size_t inputs = 0;
+    for (; inputs < INPUTS_PER_KIND; inputs++) {
+        struct made_order m = random_order(1);
+        opc_read_symbol_parts(m.symbols, OPC_SYMBOL_LENGTH, &parts);
+        uint64_t *fields[] = {&parts.root, &parts.year,        &parts.month,
+                              &parts.day,  &parts.option_type, &parts.strike};
+        buffer_len = one_in(4) ? below(sizeof buffer) : OPC_SYMBOL_LENGTH;
+        if (one_in(2)) {
+            *fields[below(MADE_COUNT(fields))] += next_random() >> below(64);
+        }
+        on_painted_stack(call_write);
+    }
+    return inputs;
+}
+
+/* Valid orders of each number of legs, then each kind of damage, alone and upon another. */
+static size_t check_inputs(void) {
+    size_t inputs = 0;
+    for (size_t legs = 1; legs <= OPC_MOST_LEGS; legs++) {
+        for (size_t i = 0; i < INPUTS_PER_KIND; i++, inputs++) {
+            made = random_order(legs);
+            on_painted_stack(call_check);
+        }
+    }
+    for (size_t kind = 0; kind < REFUSALS; kind++) {
+        for (size_t i = 0; i < INPUTS_PER_KIND; i++, inputs++) {
+            made = random_order(between(3, OPC_MOST_LEGS));
+            if (one_in(4)) {
+                damage(&made, refusals[between(kind, REFUSALS - 1)]);
+            }
+            damage(&made, refusals[kind]);
+            on_painted_stack(call_check);
+        }
+    }
+    return inputs;
+}
+
+int main(void) {
+    static const struct {
+        const char *name;
+        size_t (*run)(void);
+    } entries[] = {
+        {"opc_read_symbol", read_inputs},
+        {"opc_write_symbol", write_inputs},
+        {"opc_check_order", check_inputs},
+    };
+    bool within = true;
+    paint_stack();
+    on_painted_stack(call_nothing);
+    size_t baseline = deepest();
+    printf("| entry | inputs | deepest stack in bytes | of a stack of |\n|---|---|---|---|\n");
+    for (size_t i = 0; i < MADE_COUNT(entries); i++) {
+        paint_stack();
+        size_t inputs = entries[i].run();
+        size_t bytes = deepest() - baseline;
+        printf("| `%s` | %zu | %zu | %d |\n", entries[i].name, inputs, bytes, STACK_BYTES);
+        within = within && bytes < LIMIT;
+    }
+    if (!within) {
+        fprintf(stderr, "stack: an entry needs %d bytes or more\n", LIMIT);
+    }
+    return within ? EXIT_SUCCESS : EXIT_FAILURE;
+}
