@@ -2,8 +2,17 @@
 //! a test can put one question to both.
 #![deny(unsafe_code)]
 
+pub mod arrival;
+pub mod checks;
+pub mod class;
+pub mod examples;
+pub mod legs;
+pub mod order;
 pub mod osi;
+pub mod pairing;
 pub mod random;
+pub mod series;
+pub mod shape;
 #[allow(unsafe_code)] // calls through C
 pub mod unit;
 
