@@ -92,7 +92,7 @@ fn maximum_value(order: &Order, settings: &Settings) -> bool {
 }
 
 /// Raised to the minimum and lowered to the maximum, which is not below it: the middle one of three.
-fn allowance(settings: &Settings, maximum: i128) -> i128 {
+pub fn allowance(settings: &Settings, maximum: i128) -> i128 {
     let part = (maximum * i128::from(settings.percentage)).div_euclid(10_000);
     let mut three = [
         part,
@@ -162,7 +162,7 @@ fn reference(seen: &Seen, market: &Market) -> i128 {
 }
 
 /// D, by the band and the tick of the reference.
-fn distance(settings: &Settings, reference: i128) -> i128 {
+pub fn distance(settings: &Settings, reference: i128) -> i128 {
     let reached = |limits: &[i128]| limits.iter().filter(|&&l| reference.abs() >= l).count();
     let ticks = settings.distances[reached(&[1_000, 3_000, 10_000])];
     let tick = [settings.tick_below_3000, settings.tick_from_3000][reached(&[3_000])];

@@ -6,11 +6,13 @@ pub mod arrival;
 pub mod checks;
 pub mod class;
 pub mod examples;
+pub mod generate;
 pub mod legs;
 pub mod order;
 pub mod osi;
 pub mod pairing;
 pub mod random;
+pub mod run;
 pub mod series;
 pub mod shape;
 #[allow(unsafe_code)] // calls through C
