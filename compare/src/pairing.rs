@@ -120,3 +120,50 @@ fn walk_by_levels(group: &[usize], paired: &mut Paired) {
     // No two legs meet in both walks: they would agree in type, strike and expiry.
     paired.pairings = paired.pairs.len() as u64;
 }
+
+#[cfg(test)]
+mod tests {
+    use super::*;
+    use crate::random::Random;
+
+    /// Both methods find the same pairs, of as many contracts, and leave the same.
+    #[test]
+    fn both_methods_agree() {
+        let mut random = Random::new(1);
+        let (mut pairings, mut several) = (0, 0);
+        for _ in 0..100_000 {
+            let legs = some_legs(&mut random);
+            let european = random.index(4) == 0;
+            let levels = by_levels(&legs, european);
+            assert_eq!(levels, by_contracts(&legs, european), "{legs:?}");
+            let matched: i128 = levels.pairs.values().sum();
+            let left: i128 = levels.left.iter().map(|count| count.abs()).sum();
+            let all: i128 = legs.iter().map(|leg| leg.count.abs()).sum();
+            assert_eq!(all, left + 2 * matched, "{legs:?}");
+            pairings += levels.pairings;
+            several += u64::from(levels.pairings > 4);
+        }
+        assert!(
+            pairings > 100_000 && several > 10_000,
+            "{pairings} {several}"
+        );
+    }
+
+    /// Different series, few strikes and expiries, counts of up to 6.
+    fn some_legs(random: &mut Random) -> Vec<Leg> {
+        let mut legs: Vec<Leg> = Vec::new();
+        for _ in 0..=random.index(32) {
+            let leg = Leg {
+                option_type: *random.pick(&[OptionType::Call, OptionType::Put]),
+                expiry: (2016, random.between(1, 3), 1),
+                strike: random.between(1, 4).into(),
+                count: i128::from(random.between(1, 6)) * *random.pick(&[1, -1]),
+            };
+            let series = |leg: &Leg| (leg.option_type, leg.expiry, leg.strike);
+            if legs.iter().all(|other| series(other) != series(&leg)) {
+                legs.push(leg);
+            }
+        }
+        legs
+    }
+}

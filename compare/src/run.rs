@@ -117,23 +117,20 @@ to run it again:
         }
     }
 
-    /// Fails unless each of some numbers, every class, every shape and every number of pairings up
-    /// to some were given at least so often: a run that tries nothing must not pass.
-    pub fn require(&self, numbers: &[u64], most_pairings: u64, least: u64) {
-        for &number in numbers {
-            let times = self.given(number);
-            assert!(times >= least, "{}: number {number}: {times}", self.name);
-        }
-        let rest = [
-            ("class", &self.classes, 2),
-            ("shape", &self.shapes, 4),
-            ("pairings", &self.pairings, most_pairings),
-        ];
-        for (what, counts, most) in rest {
-            for value in 0..=most {
-                let times = counts.get(&value).copied().unwrap_or(0);
-                assert!(times >= least, "{}: {what} {value}: {times}", self.name);
-            }
+    /// Fails unless each of some numbers, every class and every shape were given at least so often,
+    /// and every number of pairings that 16 legs can make a tenth of that: a run that tries nothing
+    /// must not pass.
+    pub fn require(&self, numbers: &[u64], least: u64) {
+        self.seen("number", &self.numbers, numbers.iter().copied(), least);
+        self.seen("class", &self.classes, 0..=2, least);
+        self.seen("shape", &self.shapes, 0..=4, least);
+        self.seen("pairings", &self.pairings, 0..=15, least / 10);
+    }
+
+    fn seen(&self, what: &str, counts: &Counts, values: impl IntoIterator<Item = u64>, least: u64) {
+        for value in values {
+            let times = counts.get(&value).copied().unwrap_or(0);
+            assert!(times >= least, "{}: {what} {value}: {times}", self.name);
         }
     }
 }

@@ -11,7 +11,6 @@ use compare::{
 
 const COMPARISONS: u64 = 2_000_000;
 const LEAST_OF_EACH: u64 = 1_000;
-const MOST_PAIRINGS: u64 = 10;
 
 #[test]
 fn both_give_the_same_answers() {
@@ -30,7 +29,7 @@ fn both_give_the_same_answers() {
     }
     run.report();
     println!("orders: {rearranged} of them also in another sequence of legs");
-    run.require(&NUMBERS, MOST_PAIRINGS, LEAST_OF_EACH);
+    run.require(&NUMBERS, LEAST_OF_EACH);
     assert!(rearranged >= COMPARISONS / 20);
 }
 

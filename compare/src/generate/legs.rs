@@ -89,6 +89,7 @@ pub fn draft(random: &mut Random, most: usize) -> Draft {
         6 | 7 => butterfly(random, &pool),
         8 | 9 => box_spread(random, &pool),
         10 => calendar(random, &pool),
+        11 => chain(random, &pool, most),
         _ => list(random, &pool, most),
     };
     if draft.len() > 1 && random.index(5) == 0 {
@@ -172,6 +173,36 @@ fn calendar(random: &mut Random, pool: &Pool) -> Draft {
         (Series { expiry, ..series }, count)
     };
     expiries.map(&mut leg).collect()
+}
+
+/// A row of strikes or of expiries in which nearly every leg meets another: each leaves contracts
+/// open for the next, or one leg is as large as all others together.
+fn chain(random: &mut Random, pool: &Pool, most: usize) -> Draft {
+    let number = random.between(2, most.max(2) as u64);
+    let (series, side) = (pool.any(random), side(random));
+    let step = *random.pick(&[1, 500]);
+    let lowest = series.strike.min(90_000_000);
+    let by_strike = random.index(2) == 0;
+    let one_large = random.index(2) == 0;
+    let leg = |place: u64| {
+        let (expiry, strike) = match by_strike {
+            true => (series.expiry, lowest + place * step),
+            false => (160_301 + place, series.strike),
+        };
+        let count = match (one_large, place) {
+            (true, 0) => -(number as i64 - 1),
+            (false, place) if place % 2 == 0 => -2,
+            (false, place) if place + 1 < number => 2,
+            _ => 1,
+        };
+        let series = Series {
+            expiry,
+            strike,
+            ..series
+        };
+        (series, count * side)
+    };
+    (0..number).map(leg).collect()
 }
 
 /// Two legs or more, of one type or expiry more often than not, on both sides or on one.
