@@ -67,3 +67,43 @@ fn dearer(this: &Leg, that: &Leg) -> bool {
         (false, _) => this.expiry > that.expiry,
     }
 }
+
+#[cfg(test)]
+mod tests {
+    use super::*;
+    use crate::{legs::samples::some_legs, pairing::by_levels, random::Random};
+
+    /// Without walks over expiries and without butterflies, a debit is an order that is worth zero
+    /// or more whatever the premiums, as long as the dearer series is not the cheaper one. The most
+    /// extreme premiums are one for the dearest series of a type and expiry, down to some strike,
+    /// and zero for all others: so all sums from the dearest series on must be zero or more.
+    #[test]
+    fn sums_from_the_dearest_series_give_the_class() {
+        let mut random = Random::new(2);
+        let mut seen = [0; 3];
+        for _ in 0..100_000 {
+            let legs = some_legs(&mut random);
+            let sums: Vec<i128> = legs.iter().map(|last| sum_down_to(&legs, last)).collect();
+            let expected = match () {
+                () if sums.iter().all(|&sum| sum >= 0) => DEBIT,
+                () if sums.iter().all(|&sum| sum <= 0) => CREDIT,
+                () => UNDETERMINED,
+            };
+            let class = of(&legs, &Shape::Other, &by_levels(&legs, true));
+            assert_eq!(class, expected, "{legs:?}");
+            seen[class as usize] += 1;
+        }
+        assert!(seen.iter().all(|&times| times > 4_000), "{seen:?}");
+    }
+
+    /// The counts of a leg and of every dearer one of its type and expiry.
+    fn sum_down_to(legs: &[Leg], last: &Leg) -> i128 {
+        let same = |leg: &&Leg| (leg.option_type, leg.expiry) == (last.option_type, last.expiry);
+        let counted = legs.iter().filter(same);
+        let counted = counted.filter(|leg| match last.option_type {
+            OptionType::Call => leg.strike <= last.strike,
+            OptionType::Put => leg.strike >= last.strike,
+        });
+        counted.map(|leg| leg.count).sum()
+    }
+}

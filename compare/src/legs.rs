@@ -59,3 +59,27 @@ fn greatest_common_divisor(legs: &[Leg]) -> i128 {
         .expect("one divides every count")
         .into()
 }
+
+#[cfg(test)]
+pub mod samples {
+    use super::*;
+    use crate::random::Random;
+
+    /// Different series, few strikes and expiries, counts of up to 6.
+    pub fn some_legs(random: &mut Random) -> Vec<Leg> {
+        let mut legs: Vec<Leg> = Vec::new();
+        for _ in 0..=random.index(32) {
+            let leg = Leg {
+                option_type: *random.pick(&[OptionType::Call, OptionType::Put]),
+                expiry: (2016, random.between(1, 3), 1),
+                strike: random.between(1, 4).into(),
+                count: i128::from(random.between(1, 6)) * *random.pick(&[1, -1]),
+            };
+            let series = |leg: &Leg| (leg.option_type, leg.expiry, leg.strike);
+            if legs.iter().all(|other| series(other) != series(&leg)) {
+                legs.push(leg);
+            }
+        }
+        legs
+    }
+}

@@ -124,7 +124,7 @@ fn walk_by_levels(group: &[usize], paired: &mut Paired) {
 #[cfg(test)]
 mod tests {
     use super::*;
-    use crate::random::Random;
+    use crate::{legs::samples::some_legs, random::Random};
 
     /// Both methods find the same pairs, of as many contracts, and leave the same.
     #[test]
@@ -147,23 +147,5 @@ mod tests {
             pairings > 100_000 && several > 10_000,
             "{pairings} {several}"
         );
-    }
-
-    /// Different series, few strikes and expiries, counts of up to 6.
-    fn some_legs(random: &mut Random) -> Vec<Leg> {
-        let mut legs: Vec<Leg> = Vec::new();
-        for _ in 0..=random.index(32) {
-            let leg = Leg {
-                option_type: *random.pick(&[OptionType::Call, OptionType::Put]),
-                expiry: (2016, random.between(1, 3), 1),
-                strike: random.between(1, 4).into(),
-                count: i128::from(random.between(1, 6)) * *random.pick(&[1, -1]),
-            };
-            let series = |leg: &Leg| (leg.option_type, leg.expiry, leg.strike);
-            if legs.iter().all(|other| series(other) != series(&leg)) {
-                legs.push(leg);
-            }
-        }
-        legs
     }
 }

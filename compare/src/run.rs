@@ -67,7 +67,7 @@ impl Run {
   price {}, kind {}, stop {}, manual {}, opening {}
   {:?}
   {:?}
-to run it again:
+to run it again, in compare/:
 {CASE_VARIABLE}='{arrival}' cargo test --release --test replay -- --nocapture",
             self.name,
             self.comparisons,
