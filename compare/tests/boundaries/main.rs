@@ -3,6 +3,7 @@
 
 mod checks;
 mod distance;
+mod flags;
 mod refusals;
 
 use compare::{
