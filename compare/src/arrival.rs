@@ -35,6 +35,9 @@ pub struct Market {
     pub close: u64,
 }
 
+/// A leg to arrive: its 21 symbol bytes and its count.
+pub type RawLeg = ([u8; 21], i64);
+
 /// Everything that one call is handed. The slices may hold anything and be of any length.
 #[derive(Clone, Debug, PartialEq, Eq)]
 pub struct Arrival {
@@ -173,7 +176,7 @@ impl Market {
 
 impl Arrival {
     /// A limit order without flags, under the settings and market that head the examples.
-    pub fn limit(legs: &[([u8; 21], i64)], price: i64) -> Self {
+    pub fn limit(legs: &[RawLeg], price: i64) -> Self {
         Arrival {
             symbols: legs.iter().flat_map(|(symbol, _)| *symbol).collect(),
             counts: legs.iter().flat_map(|(_, n)| n.to_le_bytes()).collect(),

@@ -12,7 +12,7 @@
 //!   order away from the initial HAL price: an execution.
 
 use crate::{
-    arrival::{Answer, Arrival, Market, Settings, EXAMPLE_MARKET, EXAMPLE_SETTINGS},
+    arrival::{Answer, Arrival, Market, RawLeg, Settings, EXAMPLE_MARKET, EXAMPLE_SETTINGS},
     series::{call, put, Series},
 };
 
@@ -34,16 +34,16 @@ const OCT: u64 = 161_021;
 const NOV: u64 = 161_118;
 
 /// Legs of one type and expiry, strikes in dollars.
-fn legs(series: fn(u64, u64) -> Series, expiry: u64, list: &[(i64, u64)]) -> Vec<([u8; 21], i64)> {
+fn legs(series: fn(u64, u64) -> Series, expiry: u64, list: &[(i64, u64)]) -> Vec<RawLeg> {
     let leg = |&(count, dollars): &(i64, u64)| series(expiry, dollars * 1_000).leg(count);
     list.iter().map(leg).collect()
 }
 
-fn limit(legs: &[([u8; 21], i64)], price: i64) -> Arrival {
+fn limit(legs: &[RawLeg], price: i64) -> Arrival {
     Arrival::limit(legs, price)
 }
 
-fn market_order(legs: &[([u8; 21], i64)], price: i64) -> Arrival {
+fn market_order(legs: &[RawLeg], price: i64) -> Arrival {
     Arrival {
         kind: 1,
         ..limit(legs, price)
@@ -90,13 +90,13 @@ pub fn of_document_01() -> Vec<Example> {
 }
 
 /// The box of T6 and T9.
-fn box_spread() -> Vec<([u8; 21], i64)> {
+fn box_spread() -> Vec<RawLeg> {
     let calls = legs(call, MAR, &[(-1, 20), (1, 45)]);
     [calls, legs(put, MAR, &[(1, 20), (-1, 45)])].concat()
 }
 
 /// The order of T5 and of 000, debit/credit example 9.
-fn calls_and_put() -> Vec<([u8; 21], i64)> {
+fn calls_and_put() -> Vec<RawLeg> {
     [
         legs(call, JAN, &[(1, 10), (-2, 20)]),
         legs(put, JAN, &[(1, 15)]),

@@ -48,13 +48,16 @@ pub fn units(legs: &[Leg]) -> Vec<Leg> {
 /// By trial: it divides the smallest count, and divisors come in twos whose product is that count.
 fn greatest_common_divisor(legs: &[Leg]) -> i128 {
     // Counts are at most 10,000, so 64 bits hold them, and divide faster.
-    let sizes: Vec<u64> = legs.iter().map(|leg| leg.count.abs() as u64).collect();
+    let sizes: Vec<u64> = legs
+        .iter()
+        .map(|leg| leg.count.unsigned_abs() as u64)
+        .collect();
     let smallest = *sizes.iter().min().expect("an order has a leg");
     (1..)
         .take_while(|small| small * small <= smallest)
-        .filter(|small| smallest % small == 0)
+        .filter(|&small| smallest.is_multiple_of(small))
         .flat_map(|small| [small, smallest / small])
-        .filter(|divisor| sizes.iter().all(|size| size % divisor == 0))
+        .filter(|&divisor| sizes.iter().all(|size| size.is_multiple_of(divisor)))
         .max()
         .expect("one divides every count")
         .into()

@@ -1,5 +1,7 @@
 //! Series to make orders of, as they are written in examples and made up at random.
 
+use crate::arrival::RawLeg;
+
 /// A series by its parts, which may lie outside the layout.
 #[derive(Clone, Copy, Debug, PartialEq, Eq)]
 pub struct Series {
@@ -39,7 +41,7 @@ impl Series {
         symbol
     }
 
-    pub fn leg(&self, count: i64) -> ([u8; 21], i64) {
+    pub fn leg(&self, count: i64) -> RawLeg {
         (self.symbol(), count)
     }
 }

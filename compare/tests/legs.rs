@@ -3,7 +3,7 @@
 //! second implementation's answer is also found contract by contract.
 
 use compare::{
-    arrival::{Answer, Arrival},
+    arrival::{Answer, Arrival, RawLeg},
     generate::{damage, draft, legs_of, list_of},
     order,
     random::Random,
@@ -15,8 +15,6 @@ const RANDOM_LISTS: u64 = 1_000_000;
 const LEAST_OF_EACH: u64 = 1_000;
 /// Contract by contract, the work grows with the square of the contracts.
 const FEW_CONTRACTS: i64 = 60;
-
-type Leg = ([u8; 21], i64);
 
 #[test]
 fn random_lists() {
@@ -41,7 +39,7 @@ fn random_lists() {
     assert!(lengths.iter().all(|&times| times >= RANDOM_LISTS / 100));
 }
 
-fn random_legs(random: &mut Random) -> Vec<Leg> {
+fn random_legs(random: &mut Random) -> Vec<RawLeg> {
     let number = random.index(21);
     legs_of(&match random.index(2) {
         0 => list_of(random, number),
@@ -49,7 +47,7 @@ fn random_legs(random: &mut Random) -> Vec<Leg> {
     })
 }
 
-fn random_arrival(random: &mut Random, legs: &[Leg]) -> Arrival {
+fn random_arrival(random: &mut Random, legs: &[RawLeg]) -> Arrival {
     let price = *random.pick(&[-20_000, -1_000, -1, 0, 1, 1_000, 20_000]);
     let mut arrival = Arrival::limit(legs, price);
     arrival.settings.european = u64::from(random.index(3) == 0);
@@ -76,13 +74,13 @@ fn symbols() -> Vec<[u8; 21]> {
 }
 
 /// Every symbol with every count.
-fn alphabet(counts: &[i64]) -> Vec<Leg> {
+fn alphabet(counts: &[i64]) -> Vec<RawLeg> {
     let with_counts = |symbol| counts.iter().map(move |&count| (symbol, count));
     symbols().into_iter().flat_map(with_counts).collect()
 }
 
 /// Puts a list of legs to both, European and not.
-fn compare(run: &mut Run, legs: &[Leg]) {
+fn compare(run: &mut Run, legs: &[RawLeg]) {
     for european in [0, 1] {
         let mut arrival = Arrival::limit(legs, -1_000);
         arrival.settings.european = european;
@@ -146,7 +144,7 @@ fn every_six_legs_of_one_type() {
                 .iter()
                 .zip(0..)
                 .map(|(&s, place)| (s, count(place)));
-            let legs: Vec<Leg> = legs.filter(|leg| leg.1 != 0).collect();
+            let legs: Vec<RawLeg> = legs.filter(|leg| leg.1 != 0).collect();
             compare(&mut run, &legs);
         }
     }

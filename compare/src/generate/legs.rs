@@ -24,7 +24,7 @@ impl Pool {
         let number = 1 + random.index(4);
         let at = |place: usize| EXPIRIES[(first + place) % EXPIRIES.len()];
         Pool {
-            root: *random.pick(&ROOTS),
+            root: ROOTS[random.index(ROOTS.len())],
             expiries: (0..number).map(at).collect(),
             strikes: strikes(random),
         }

@@ -10,13 +10,17 @@ pub use damage::damage;
 pub use legs::{draft, list_of};
 pub use values::{market, settings};
 
-use crate::{arrival::Arrival, random::Random, series::Series};
+use crate::{
+    arrival::{Arrival, RawLeg},
+    random::Random,
+    series::Series,
+};
 use values::price;
 
 /// Series with signed counts, before they become bytes.
 pub type Draft = Vec<(Series, i64)>;
 
-pub fn legs_of(draft: &Draft) -> Vec<([u8; 21], i64)> {
+pub fn legs_of(draft: &Draft) -> Vec<RawLeg> {
     draft
         .iter()
         .map(|(series, count)| series.leg(*count))

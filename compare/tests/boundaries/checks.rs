@@ -2,7 +2,7 @@
 
 use super::{finish, hold, undetermined, MARCH};
 use compare::{
-    arrival::Arrival,
+    arrival::{Arrival, RawLeg},
     run::Run,
     series::{call, put},
 };
@@ -179,7 +179,7 @@ fn debit_credit() {
 }
 
 /// Debit orders of the three shapes with a maximum, over strikes that far apart, and two without.
-fn shaped(apart: u64, side: i64) -> [(Vec<([u8; 21], i64)>, bool); 5] {
+fn shaped(apart: u64, side: i64) -> [(Vec<RawLeg>, bool); 5] {
     let (low, middle, high) = (1, 1 + apart, 1 + 2 * apart);
     let butterfly = |high| {
         vec![

@@ -2,7 +2,7 @@
 
 use super::{finish, hold, purchase, sale, undetermined, MARCH};
 use compare::{
-    arrival::{Answer, Arrival, Market, Settings},
+    arrival::{Answer, Arrival, Market, RawLeg, Settings},
     run::Run,
     series::{call, put},
 };
@@ -244,8 +244,11 @@ fn market() {
     finish(&run, &[0, 10], 100);
 }
 
-/// The faults that can be made one on top of the other, each with its number.
-fn faults() -> [(u64, fn(&mut Arrival)); 9] {
+/// A number, and what makes an arrival get it.
+type Fault = (u64, fn(&mut Arrival));
+
+/// Faults that can be made one on top of the other.
+fn faults() -> [Fault; 9] {
     [
         (1, |arrival| arrival.symbols.push(b' ')),
         (3, |arrival| {
@@ -272,7 +275,7 @@ fn faults() -> [(u64, fn(&mut Arrival)); 9] {
     ]
 }
 
-fn append(arrival: &mut Arrival, leg: ([u8; 21], i64)) {
+fn append(arrival: &mut Arrival, leg: RawLeg) {
     let one = Arrival::limit(&[leg], 0);
     // In front, so that a byte too many stays at the end.
     arrival.symbols = [one.symbols, arrival.symbols.clone()].concat();
