@@ -13,8 +13,10 @@ use compare::{
 
 const RANDOM_LISTS: u64 = 1_000_000;
 const LEAST_OF_EACH: u64 = 1_000;
-/// Contract by contract, the work grows with the square of the contracts.
+/// Contract by contract, the work grows with the square of the contracts: always with few, now and
+/// then with more.
 const FEW_CONTRACTS: i64 = 60;
+const MORE_CONTRACTS: i64 = 1_500;
 
 #[test]
 fn random_lists() {
@@ -26,7 +28,9 @@ fn random_lists() {
         lengths[legs.len()] += 1;
         let arrival = random_arrival(&mut run.random, &legs);
         let answer = run.compare(&arrival);
-        if legs.iter().map(|leg| leg.1.abs()).sum::<i64>() <= FEW_CONTRACTS {
+        let contracts: i64 = legs.iter().map(|leg| leg.1.abs()).sum();
+        let now = contracts <= MORE_CONTRACTS && run.random.index(100) == 0;
+        if contracts <= FEW_CONTRACTS || now {
             assert_eq!(answer, order::check_by_contracts(&arrival), "{arrival}");
             by_contracts += 1;
         }

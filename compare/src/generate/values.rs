@@ -24,14 +24,14 @@ pub fn settings(random: &mut Random) -> Settings {
     }
     if random.index(2) == 0 {
         let off = |random: &mut Random| u64::from(random.index(4) != 0);
-        settings.switches = [0; 7].map(|_| off(random) * (1 + flag(random, 8)));
+        settings.switches = [0; 7].map(|_| off(random) * flag(random, 8).max(1));
     }
     let increment = |random: &mut Random| pick_or(random, &[1, 5, 10, 50, 100, 999, 1_000], 1_000);
     settings.tick_below_3000 = increment(random);
     settings.tick_from_3000 = increment(random);
     settings.net_increment = increment(random);
-    let distance = |random: &mut Random| pick_or(random, &[2, 3, 5, 10, 1_000], 999) + 1;
-    settings.distances = [0; 4].map(|_| distance(random).clamp(2, 1_000));
+    let distance = |random: &mut Random| pick_or(random, &[2, 3, 5, 10, 1_000], 1_000);
+    settings.distances = [0; 4].map(|_| distance(random).max(2));
     settings.percentage = pick_or(random, &[0, 1, 300, 500, 9_999, 10_000], 10_000);
     let presets = [0, 1, 50, 600, 999_999, 1_000_000];
     let (one, other) = (
