@@ -136,25 +136,47 @@ fn every_four_legs() {
     }
 }
 
-/// Every choice of five or six different series of one type, every count of -2 to 2 but zero.
+/// Six series of one type, each absent or with a count of -2 to 2: rows of strikes, equal and
+/// unequal steps, rows of expiries, and both.
 #[test]
-fn every_six_legs_of_one_type() {
-    let mut run = Run::new("six legs");
-    let symbols = symbols();
-    for one_type in symbols.chunks(6) {
-        for counts in 0..5_u32.pow(6) {
-            let count = |place: u32| i64::from(counts / 5_u32.pow(place) % 5) - 2;
-            let legs = one_type
+fn every_six_series_of_one_type() {
+    const EXPIRIES: [u64; 6] = [151_218, 160_115, 160_318, 160_319, 160_617, 170_120];
+    let grids: [(&[u64], &[u64]); 5] = [
+        (
+            &[160_318],
+            &[10_000, 15_000, 20_000, 21_000, 22_000, 24_000],
+        ),
+        (&[160_318, 160_617], &[10_000, 15_000, 20_000]),
+        (&[160_318, 160_617], &[10_000, 15_000, 20_001]),
+        (&[151_218, 160_115, 170_101], &[10_000, 15_000]),
+        (&EXPIRIES, &[10_000]),
+    ];
+    let mut run = Run::new("six series");
+    for (expiries, strikes) in grids {
+        for one_type in [call, put] {
+            let series = expiries
                 .iter()
-                .zip(0..)
-                .map(|(&s, place)| (s, count(place)));
-            let legs: Vec<RawLeg> = legs.filter(|leg| leg.1 != 0).collect();
-            compare(&mut run, &legs);
+                .flat_map(|&expiry| strikes.iter().map(move |&strike| one_type(expiry, strike)));
+            let symbols: Vec<[u8; 21]> = series.map(|series| series.symbol()).collect();
+            every_count(&mut run, &symbols);
         }
     }
     run.report();
-    assert_eq!(run.comparisons, 2 * 2 * 5_u64.pow(6));
+    assert_eq!(run.comparisons, 5 * 2 * 2 * 5_u64.pow(6));
     for number in [0, 3, 8, 22, 23] {
         assert!(run.given(number) > 0, "number {number}");
+    }
+}
+
+/// Each symbol with each count of -2 to 2; zero leaves the leg out.
+fn every_count(run: &mut Run, symbols: &[[u8; 21]]) {
+    for code in 0..5_u32.pow(symbols.len() as u32) {
+        let count = |place: u32| i64::from(code / 5_u32.pow(place) % 5) - 2;
+        let legs = symbols
+            .iter()
+            .zip(0..)
+            .map(|(&symbol, place)| (symbol, count(place)));
+        let legs: Vec<RawLeg> = legs.filter(|leg| leg.1 != 0).collect();
+        compare(run, &legs);
     }
 }
