@@ -158,7 +158,8 @@ fn every_six_series_of_one_type() {
                 .iter()
                 .flat_map(|&expiry| strikes.iter().map(move |&strike| one_type(expiry, strike)));
             let symbols: Vec<[u8; 21]> = series.map(|series| series.symbol()).collect();
-            every_count(&mut run, &symbols);
+            // Not in a sequence that a walk could take.
+            every_count(&mut run, &[3, 0, 5, 1, 4, 2].map(|place| symbols[place]));
         }
     }
     run.report();
