@@ -1,9 +1,24 @@
 //! The proved library beside a second implementation of the same rules, in the same types, so that
 //! a test can put one question to both.
+//!
+//! `unit` is the library. The second implementation is `osi` for symbols and `order`, with
+//! `pairing`, `shape`, `class` and `checks` below it, for orders. `examples` are those of the
+//! papers, `generate` makes orders up, and `run` puts them to both and counts.
 #![deny(unsafe_code)]
 
+pub mod arrival;
+pub mod checks;
+pub mod class;
+pub mod examples;
+pub mod generate;
+pub mod legs;
+pub mod order;
 pub mod osi;
+pub mod pairing;
 pub mod random;
+pub mod run;
+pub mod series;
+pub mod shape;
 #[allow(unsafe_code)] // calls through C
 pub mod unit;
 

@@ -1,0 +1,170 @@
+//! The checks 20 to 25 on a valid order. Each is one predicate; which number is given is not their
+//! concern.
+//!
+//! Money is signed throughout, paid above zero and received below, as an order's price is. Check 25
+//! then needs no rule for sells: seen from the other side of zero a sell is a buy, an offer is a
+//! bid with its sign turned, and what is missing stays zero.
+
+use crate::{
+    arrival::{Market, Settings, HALT, OPEN},
+    class::{CREDIT, DEBIT},
+    legs::{Leg, OptionType},
+    shape::Shape,
+};
+
+/// A valid order, with what was found out about it.
+pub struct Order {
+    /// With unit counts.
+    pub units: Vec<Leg>,
+    pub price: i128,
+    pub is_market: bool,
+    pub stop: bool,
+    pub manual: bool,
+    pub opening: bool,
+    pub class: u64,
+    pub shape: Shape,
+}
+
+/// Every check with whether it would reject the order, were it on.
+pub fn all(order: &Order, settings: &Settings, market: &Market) -> [(u64, bool); 6] {
+    [
+        (20, put_strike(order)),
+        (21, call_underlying(order, settings, market)),
+        (22, buy_buy_sell_sell(order, settings)),
+        (23, debit_credit(order)),
+        (24, maximum_value(order, settings)),
+        (25, tick_distance(order, settings, market)),
+    ]
+}
+
+fn simple(order: &Order) -> Option<&Leg> {
+    match &order.units[..] {
+        [leg] => Some(leg),
+        _ => None,
+    }
+}
+
+/// The leg of a simple buy that 20 and 21 look at.
+fn simple_buy(order: &Order, option_type: OptionType) -> Option<&Leg> {
+    let skipped = order.is_market && order.opening;
+    let leg = simple(order).filter(|_| !skipped)?;
+    (leg.option_type == option_type && leg.count > 0).then_some(leg)
+}
+
+fn put_strike(order: &Order) -> bool {
+    simple_buy(order, OptionType::Put).is_some_and(|leg| order.price >= leg.strike)
+}
+
+fn call_underlying(order: &Order, settings: &Settings, market: &Market) -> bool {
+    let applies = market.underlying != 0 && settings.adjusted == 0 && market.extended_hours == 0;
+    applies
+        && simple_buy(order, OptionType::Call).is_some()
+        && order.price >= i128::from(market.underlying)
+}
+
+fn buy_buy_sell_sell(order: &Order, settings: &Settings) -> bool {
+    if simple(order).is_some() || order.is_market {
+        return false;
+    }
+    let bought: i128 = order.units.iter().map(|leg| leg.count.max(0)).sum();
+    let sold: i128 = order.units.iter().map(|leg| (-leg.count).max(0)).sum();
+    let increment = i128::from(settings.net_increment);
+    match (bought, sold) {
+        (_, 0) => order.price < bought * increment,
+        (0, _) => -order.price < sold * increment,
+        _ => false,
+    }
+}
+
+fn debit_credit(order: &Order) -> bool {
+    if simple(order).is_some() {
+        return false;
+    }
+    let paid_for_credit = order.class == CREDIT && order.price > 0;
+    let received_for_debit = order.class == DEBIT && order.price < 0;
+    paid_for_credit || received_for_debit && !order.is_market
+}
+
+fn maximum_value(order: &Order, settings: &Settings) -> bool {
+    let most = |maximum| maximum + allowance(settings, maximum);
+    let maximum = order.shape.maximum();
+    maximum.is_some_and(|maximum| order.price.abs() > most(maximum))
+}
+
+/// Raised to the minimum and lowered to the maximum, which is not below it: the middle one of three.
+pub fn allowance(settings: &Settings, maximum: i128) -> i128 {
+    let part = (maximum * i128::from(settings.percentage)).div_euclid(10_000);
+    let mut three = [
+        part,
+        settings.preset_minimum.into(),
+        settings.preset_maximum.into(),
+    ];
+    three.sort_unstable();
+    three[1]
+}
+
+fn tick_distance(order: &Order, settings: &Settings, market: &Market) -> bool {
+    let Some(leg) = simple(order) else {
+        return false;
+    };
+    if order.is_market || order.stop || order.manual {
+        return false;
+    }
+    let reference = reference(&Seen::from(market, leg.count.signum()), market);
+    reference != 0 && order.price > reference + distance(settings, reference)
+}
+
+/// The market's prices as a buyer sees them, or a seller with every sign turned.
+struct Seen {
+    near: i128,
+    far: i128,
+    own_far: i128,
+    close: i128,
+}
+
+impl Seen {
+    fn from(market: &Market, side: i128) -> Self {
+        let (near, far, own_far) = if side > 0 {
+            (market.nbb, market.nbo, market.own_offer)
+        } else {
+            (market.nbo, market.nbb, market.own_bid)
+        };
+        let turned = |price: u64| i128::from(price) * side;
+        Seen {
+            near: turned(near),
+            far: turned(far),
+            own_far: turned(own_far),
+            close: turned(market.close),
+        }
+    }
+
+    /// Locked, crossed or unavailable.
+    fn nbbo_is_unreliable(&self) -> bool {
+        match (self.near != 0, self.far != 0) {
+            (true, true) => self.near >= self.far,
+            (near, far) => !near && !far,
+        }
+    }
+}
+
+/// The price that 25 measures from, 0 if it is missing.
+fn reference(seen: &Seen, market: &Market) -> i128 {
+    let elsewhere = market.open_elsewhere != 0;
+    let far_alone_missing = seen.far == 0 && seen.near != 0;
+    match market.phase {
+        HALT => seen.far,
+        OPEN if seen.nbbo_is_unreliable() => seen.own_far,
+        OPEN => seen.far,
+        _ if !elsewhere || seen.nbbo_is_unreliable() => seen.close,
+        _ if far_alone_missing && seen.close >= seen.near => seen.close,
+        _ => seen.far,
+    }
+}
+
+/// D, by the band and the tick of the reference.
+pub fn distance(settings: &Settings, reference: i128) -> i128 {
+    let reached = |limits: &[i128]| limits.iter().filter(|&&l| reference.abs() >= l).count();
+    let ticks = settings.distances[reached(&[1_000, 3_000, 10_000])];
+    let tick = [settings.tick_below_3000, settings.tick_from_3000][reached(&[3_000])];
+    i128::from(ticks) * i128::from(tick)
+}

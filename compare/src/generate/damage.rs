@@ -1,0 +1,69 @@
+//! Damage of every kind.
+
+use super::legs::ROOTS;
+use crate::{
+    arrival::{Arrival, Market, Settings},
+    random::Random,
+};
+
+/// Makes one thing wrong, or perhaps just unusual.
+pub fn damage(random: &mut Random, arrival: &mut Arrival) {
+    let legs = arrival.counts.len() / 8;
+    match random.index(12) {
+        0 => damage_lengths(random, arrival),
+        1 | 2 if !arrival.symbols.is_empty() => {
+            let place = random.index(arrival.symbols.len());
+            arrival.symbols[place] = *random.pick(b" AZCPXacz0123459+-/:@[");
+        }
+        3 if legs > 0 => {
+            const WRONG: [i64; 8] = [0, 10_001, -10_001, i64::MIN, i64::MAX, 1 << 32, -1 << 32, 7];
+            let count = random.pick(&WRONG).to_le_bytes();
+            let start = random.index(legs) * 8;
+            arrival.counts[start..start + 8].copy_from_slice(&count);
+        }
+        4 | 5 if arrival.symbols.len() >= 42 => {
+            let length = *random.pick(&[21, 21, 6, 12, 13]); // whole symbols, or their first parts
+            let symbols = arrival.symbols.len() / 21;
+            let (from, to) = (random.index(symbols) * 21, random.index(symbols) * 21);
+            arrival.symbols.copy_within(from..from + length, to);
+        }
+        6 if arrival.symbols.len() >= 21 => {
+            let start = random.index(arrival.symbols.len() / 21) * 21;
+            let root = format!("{:<6}", random.pick(&ROOTS));
+            arrival.symbols[start..start + 6].copy_from_slice(root.as_bytes());
+        }
+        7 => {
+            const TOO_LARGE: i64 = 1_000_000_000_001;
+            let turned = arrival.price.wrapping_neg();
+            arrival.price = *random.pick(&[TOO_LARGE, -TOO_LARGE, i64::MAX, i64::MIN, 0, turned]);
+        }
+        8 | 9 => damage_settings(random, &mut arrival.settings),
+        _ => damage_market(random, &mut arrival.market),
+    }
+}
+
+fn damage_lengths(random: &mut Random, arrival: &mut Arrival) {
+    let by = *random.pick(&[1, 1, 7, 8, 13, 20, 21, 22]);
+    let slice = match random.index(2) {
+        0 => &mut arrival.symbols,
+        _ => &mut arrival.counts,
+    };
+    match random.index(2) {
+        0 => slice.truncate(slice.len().saturating_sub(by)),
+        _ => slice.extend(random.bytes(by)),
+    }
+}
+
+fn damage_settings(random: &mut Random, settings: &mut Settings) {
+    let mut numbers = settings.numbers();
+    let place = 7 + random.index(11); // not the switches, adjusted and European
+    numbers[place] = *random.pick(&[0, 1, 2, 1_000, 1_001, 10_001, 1_000_001, u64::MAX]);
+    *settings = Settings::of_numbers(numbers);
+}
+
+fn damage_market(random: &mut Random, market: &mut Market) {
+    let mut numbers = market.numbers();
+    let place = random.index(numbers.len());
+    numbers[place] = *random.pick(&[0, 1, 2, 3, 1_000_000_000, 1_000_000_001, u64::MAX]);
+    *market = Market::of_numbers(numbers);
+}

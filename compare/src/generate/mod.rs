@@ -1,0 +1,73 @@
+//! Arrivals made up at random, so biased that the rules meet: legs that form the known shapes or
+//! nearly do, prices at the limits that checks draw, settings and markets at their own limits, and
+//! damage of every kind.
+
+mod damage;
+mod legs;
+mod values;
+
+pub use damage::damage;
+pub use legs::{draft, list_of};
+pub use values::{market, settings};
+
+use crate::{
+    arrival::{Arrival, RawLeg},
+    random::Random,
+    series::Series,
+};
+use values::price;
+
+/// Series with signed counts, before they become bytes.
+pub type Draft = Vec<(Series, i64)>;
+
+pub fn legs_of(draft: &Draft) -> Vec<RawLeg> {
+    draft
+        .iter()
+        .map(|(series, count)| series.leg(*count))
+        .collect()
+}
+
+pub fn shuffle<T>(random: &mut Random, list: &mut [T]) {
+    for end in (1..list.len()).rev() {
+        list.swap(end, random.index(end + 1));
+    }
+}
+
+fn side(random: &mut Random) -> i64 {
+    *random.pick(&[1, -1])
+}
+
+/// A whole arrival, mostly without damage.
+pub fn arrival(random: &mut Random) -> Arrival {
+    let number = random.index(64);
+    let draft = match number {
+        0 => Draft::new(),
+        1 | 2 => {
+            let legs = 14 + random.index(7); // around 16, the most
+            list_of(random, legs)
+        }
+        _ => draft(random, 16),
+    };
+    let settings = settings(random);
+    let market = market(random, &draft);
+    let mut arrival = Arrival {
+        price: price(random, &draft, &settings, &market),
+        kind: u64::from(random.index(4) == 0),
+        stop: u64::from(random.index(8) == 0),
+        manual: u64::from(random.index(8) == 0),
+        opening: u64::from(random.index(4) == 0),
+        settings,
+        market,
+        ..Arrival::limit(&legs_of(&draft), 0)
+    };
+    if random.index(32) == 0 {
+        arrival.kind *= random.number();
+        arrival.stop *= random.number();
+        arrival.manual *= random.number();
+        arrival.opening *= random.number();
+    }
+    while random.index(6) == 0 {
+        damage(random, &mut arrival);
+    }
+    arrival
+}

@@ -1,0 +1,149 @@
+//! Settings, markets and prices, often at their limits and at those that checks draw.
+
+use super::{side, Draft};
+use crate::{
+    arrival::{Market, Settings, EXAMPLE_SETTINGS, OPEN},
+    checks,
+    random::Random,
+};
+
+/// Yes more seldom than no, and any number that means yes.
+fn flag(random: &mut Random, one_in: usize) -> u64 {
+    match random.index(one_in) {
+        0 => *random.pick(&[1, 1, 1, 2, 1 << 32, u64::MAX]),
+        _ => 0,
+    }
+}
+
+/// Settings within their limits.
+pub fn settings(random: &mut Random) -> Settings {
+    let mut settings = EXAMPLE_SETTINGS;
+    settings.european = flag(random, 4);
+    if random.index(4) == 0 {
+        return settings;
+    }
+    if random.index(2) == 0 {
+        let off = |random: &mut Random| u64::from(random.index(4) != 0);
+        settings.switches = [0; 7].map(|_| off(random) * flag(random, 8).max(1));
+    }
+    let increment = |random: &mut Random| pick_or(random, &[1, 5, 10, 50, 100, 999, 1_000], 1_000);
+    settings.tick_below_3000 = increment(random);
+    settings.tick_from_3000 = increment(random);
+    settings.net_increment = increment(random);
+    let distance = |random: &mut Random| pick_or(random, &[2, 3, 5, 10, 1_000], 1_000);
+    settings.distances = [0; 4].map(|_| distance(random).max(2));
+    settings.percentage = pick_or(random, &[0, 1, 300, 500, 9_999, 10_000], 10_000);
+    let presets = [0, 1, 50, 600, 999_999, 1_000_000];
+    let (one, other) = (
+        pick_or(random, &presets, 1_000_000),
+        pick_or(random, &presets, 5_000),
+    );
+    settings.preset_minimum = one.min(other);
+    settings.preset_maximum = one.max(other);
+    settings.set_ticks = pick_or(random, &[0, 1, 4, 1_000], 1_000);
+    settings.adjusted = flag(random, 8);
+    settings
+}
+
+fn pick_or(random: &mut Random, likely: &[u64], most: u64) -> u64 {
+    match random.index(4) {
+        0 => random.between(1, most),
+        _ => *random.pick(likely),
+    }
+}
+
+/// A market within its limits, its prices close to each other and often around a band's limit.
+pub fn market(random: &mut Random, draft: &Draft) -> Market {
+    let level = match random.index(10) {
+        0 => random.between(1, 1_000_000_000),
+        1 => 1_000_000_000,
+        2 | 3 => random.between(1, 20_000),
+        4 => random.between(1, 60),
+        _ => *random.pick(&[1_000, 3_000, 10_000]),
+    };
+    let strike = draft.first().map_or(1, |(series, _)| series.strike);
+    let underlying = match random.index(5) {
+        0 => 0,
+        1 => strike,
+        2 => near(random, level),
+        _ => random.between(1, 200_000),
+    };
+    Market {
+        phase: *random.pick(&[0, 0, OPEN, OPEN, OPEN, 2]),
+        open_elsewhere: flag(random, 2),
+        extended_hours: flag(random, 8),
+        underlying,
+        nbb: market_price(random, level),
+        nbo: market_price(random, level),
+        own_bid: market_price(random, level),
+        own_offer: market_price(random, level),
+        close: market_price(random, level),
+    }
+}
+
+fn market_price(random: &mut Random, level: u64) -> u64 {
+    match random.index(4) {
+        0 => 0,
+        _ => near(random, level),
+    }
+}
+
+fn near(random: &mut Random, level: u64) -> u64 {
+    let by = *random.pick(&[0, 0, 1, 1, 2, 10, 50, 200]);
+    let value = match random.index(2) {
+        0 => level + by,
+        _ => level.saturating_sub(by),
+    };
+    value.min(1_000_000_000)
+}
+
+/// A price at or next to a limit that some check draws for this order, or any.
+pub fn price(random: &mut Random, draft: &Draft, settings: &Settings, market: &Market) -> i64 {
+    let size = match random.index(12) {
+        0 => random.between(0, 30_000) as i128,
+        1 => *random.pick(&[0, 1, 2, 1_000_000_000_000]),
+        _ => *random.pick(&limits(draft, settings, market)),
+    };
+    let size = size + *random.pick(&[-1, 0, 0, 1]);
+    let size = size.clamp(-1_000_000_000_000, 1_000_000_000_000) as i64;
+    match draft[..] {
+        // Simple orders pay to buy: mostly so, that they come to the checks.
+        [(_, count)] if random.index(32) != 0 => size.abs().max(1) * count.signum(),
+        _ => size * side(random),
+    }
+}
+
+/// The limits that checks draw for an order, whichever of them apply.
+fn limits(draft: &Draft, settings: &Settings, market: &Market) -> Vec<i128> {
+    let Market {
+        nbb,
+        nbo,
+        own_bid,
+        own_offer,
+        close,
+        ..
+    } = *market;
+    let mut limits = vec![0];
+    if let [(series, _)] = draft[..] {
+        limits.push(series.strike.into());
+        limits.push(market.underlying.into());
+        for reference in [nbb, nbo, own_bid, own_offer, close].map(i128::from) {
+            let distance = checks::distance(settings, reference);
+            limits.extend([reference + distance, reference - distance, reference]);
+        }
+        return limits;
+    }
+    let units = draft.iter().map(|(_, count)| i128::from(count.abs()));
+    let smallest = units.clone().min().unwrap_or(1).max(1);
+    let sum: i128 = units.map(|size| size / smallest).sum(); // mostly the unit counts
+    limits.push(sum * i128::from(settings.net_increment));
+    let mut strikes: Vec<i128> = draft.iter().map(|(s, _)| s.strike.into()).collect();
+    strikes.sort_unstable();
+    strikes.dedup();
+    for two in strikes.windows(2).take(3) {
+        let maximum = two[1] - two[0];
+        let most = maximum + checks::allowance(settings, maximum);
+        limits.extend([most, most, maximum, most / 2]);
+    }
+    limits
+}

@@ -1,0 +1,275 @@
+//! Check 25: the distance of every band, and the reference of every phase.
+
+use super::{finish, hold, purchase, sale};
+use compare::{
+    arrival::{Arrival, Market, Settings, EXAMPLE_MARKET, EXAMPLE_SETTINGS},
+    run::Run,
+};
+
+/// Every band with a distance of its own, and two ticks.
+const SETTINGS: Settings = Settings {
+    tick_below_3000: 11,
+    tick_from_3000: 13,
+    distances: [2, 3, 5, 7],
+    ..EXAMPLE_SETTINGS
+};
+
+/// References around the limits of bands, with D under those settings.
+const REFERENCES: [(u64, u64); 16] = [
+    (1, 22),
+    (22, 22),
+    (23, 22),
+    (24, 22),
+    (998, 22),
+    (999, 22),
+    (1_000, 33),
+    (1_001, 33),
+    (2_998, 33),
+    (2_999, 33),
+    (3_000, 65),
+    (3_001, 65),
+    (9_999, 65),
+    (10_000, 91),
+    (10_001, 91),
+    (1_000_000_000, 91),
+];
+
+/// Markets in which one side is measured from some price, the other from none: purchases first.
+fn markets(reference: u64) -> [[Market; 2]; 4] {
+    let market = |phase| Market {
+        phase,
+        ..EXAMPLE_MARKET
+    };
+    let close = |market| Market {
+        close: reference,
+        ..market
+    };
+    let nbo = |market| Market {
+        nbo: reference,
+        ..market
+    };
+    let nbb = |market| Market {
+        nbb: reference,
+        ..market
+    };
+    let elsewhere = Market {
+        open_elsewhere: 1,
+        ..market(0)
+    };
+    [
+        [close(market(0)), close(market(0))],
+        [nbo(elsewhere), nbb(elsewhere)],
+        [nbo(market(1)), nbb(market(1))],
+        [nbo(market(2)), nbb(market(2))],
+    ]
+}
+
+#[test]
+fn every_band() {
+    let mut run = Run::new("25 by band");
+    for (reference, distance) in REFERENCES {
+        for [for_purchase, for_sale] in markets(reference) {
+            for change in [-1, 0, 1] {
+                let mut bought = purchase();
+                bought.settings = SETTINGS;
+                bought.market = for_purchase;
+                bought.price = (reference + distance) as i64 + change;
+                hold(&mut run, &bought, if change > 0 { 25 } else { 0 });
+                hold_the_exceptions(&mut run, &bought);
+
+                let mut sold = sale();
+                sold.settings = SETTINGS;
+                sold.market = for_sale;
+                let amount = reference as i64 - distance as i64 + change;
+                if amount > 0 {
+                    sold.price = -amount;
+                    hold(&mut run, &sold, if change < 0 { 25 } else { 0 });
+                    hold_the_exceptions(&mut run, &sold);
+                }
+                // A reference less D that is not above 1 rejects no sale.
+                sold.price = -1;
+                hold(
+                    &mut run,
+                    &sold,
+                    if reference > distance + 1 { 25 } else { 0 },
+                );
+            }
+        }
+    }
+    finish(&run, &[0, 25], 1_000);
+}
+
+/// Not for market orders, nor with a stop or manual flag, nor switched off.
+fn hold_the_exceptions(run: &mut Run, arrival: &Arrival) {
+    let mut exceptions = [(); 4].map(|()| arrival.clone());
+    exceptions[0].kind = 1;
+    exceptions[1].stop = 1;
+    exceptions[2].manual = u64::MAX;
+    exceptions[3].settings.switches[5] = 0;
+    for exception in &exceptions {
+        hold(run, exception, 0);
+    }
+}
+
+#[test]
+fn largest_distance() {
+    let mut run = Run::new("25 at most");
+    let mut bought = purchase();
+    (
+        bought.settings.tick_below_3000,
+        bought.settings.tick_from_3000,
+    ) = (1_000, 1_000);
+    bought.settings.distances = [1_000; 4];
+    for reference in [1, 2_999, 3_000, 1_000_000_000] {
+        bought.market.nbo = reference;
+        for (change, number) in [(-1, 0), (0, 0), (1, 25)] {
+            bought.price = reference as i64 + 1_000_000 + change;
+            hold(&mut run, &bought, number);
+        }
+    }
+    let mut sold = sale();
+    sold.settings = bought.settings;
+    sold.market.nbb = 1_000_000_000;
+    for (amount, number) in [(998_999_999, 25), (999_000_000, 0), (999_000_001, 0)] {
+        sold.price = -amount;
+        hold(&mut run, &sold, number);
+    }
+    finish(&run, &[0, 25], 15);
+}
+
+/// A row of the table of references: NBB, NBO, own bid, own offer, close, and from what a purchase
+/// and a sale are measured (0: no check). Every price stands for itself, so no other can be meant.
+type Row = ([u64; 5], u64, u64);
+
+const PRE_OPENING_ELSEWHERE: [Row; 12] = [
+    ([500, 600, 7, 8, 900], 600, 500),
+    ([600, 600, 7, 8, 900], 900, 900), // locked
+    ([601, 600, 7, 8, 900], 900, 900), // crossed
+    ([0, 0, 7, 8, 900], 900, 900),     // unavailable
+    ([0, 0, 7, 8, 0], 0, 0),
+    ([500, 0, 7, 8, 501], 501, 500), // the NBO alone missing
+    ([500, 0, 7, 8, 500], 500, 500),
+    ([500, 0, 7, 8, 499], 0, 500),
+    ([0, 600, 7, 8, 599], 600, 599), // the NBB alone missing
+    ([0, 600, 7, 8, 600], 600, 600),
+    ([0, 600, 7, 8, 601], 600, 0),
+    ([0, 600, 7, 8, 0], 600, 0),
+];
+
+const PRE_OPENING_OTHERWISE: [Row; 3] = [
+    ([500, 600, 7, 8, 900], 900, 900),
+    ([600, 600, 7, 8, 0], 0, 0),
+    ([0, 0, 7, 8, 900], 900, 900),
+];
+
+const OPEN: [Row; 8] = [
+    ([500, 600, 700, 800, 900], 600, 500),
+    ([599, 600, 700, 800, 900], 600, 599),
+    ([600, 600, 700, 800, 900], 800, 700),
+    ([601, 600, 700, 800, 900], 800, 700),
+    ([0, 0, 700, 800, 900], 800, 700),
+    ([601, 600, 0, 0, 900], 0, 0),
+    ([500, 0, 700, 800, 900], 0, 500),
+    ([0, 600, 700, 800, 900], 600, 0),
+];
+
+const HALT: [Row; 5] = [
+    ([500, 600, 700, 800, 900], 600, 500),
+    ([600, 600, 700, 800, 900], 600, 600),
+    ([601, 600, 700, 800, 900], 600, 601),
+    ([500, 0, 700, 800, 900], 0, 500),
+    ([0, 0, 700, 800, 900], 0, 0),
+];
+
+#[test]
+fn every_reference() {
+    let mut run = Run::new("25 by reference");
+    for (phase, elsewhere, rows) in [
+        (0, 1, &PRE_OPENING_ELSEWHERE[..]),
+        (0, u64::MAX, &PRE_OPENING_ELSEWHERE),
+        (0, 0, &PRE_OPENING_OTHERWISE),
+        (1, 0, &OPEN),
+        (1, 1, &OPEN),
+        (2, 0, &HALT),
+        (2, 1, &HALT),
+    ] {
+        for &([nbb, nbo, own_bid, own_offer, close], for_purchase, for_sale) in rows {
+            let market = Market {
+                phase,
+                open_elsewhere: elsewhere,
+                nbb,
+                nbo,
+                own_bid,
+                own_offer,
+                close,
+                ..EXAMPLE_MARKET
+            };
+            hold_reference(&mut run, market, purchase(), for_purchase, 1);
+            hold_reference(&mut run, market, sale(), for_sale, -1);
+        }
+    }
+    finish(&run, &[0, 25], 186);
+}
+
+/// D is 50 in all of these. The last amount accepted and the first rejected are named; without a
+/// reference even the most extreme amount is accepted.
+fn hold_reference(run: &mut Run, market: Market, order: Arrival, reference: u64, side: i64) {
+    let at = |amount: i64| Arrival {
+        price: amount * side,
+        market,
+        ..order.clone()
+    };
+    if reference == 0 {
+        hold(run, &at(if side > 0 { 1_000_000_000_000 } else { 1 }), 0);
+        return;
+    }
+    let last = reference as i64 + 50 * side;
+    hold(run, &at(last), 0);
+    hold(run, &at(last + side), 25);
+}
+
+/// Every market over a few values, at every price next to a limit that one of them could draw.
+#[test]
+fn every_small_market() {
+    const VALUES: [u64; 4] = [0, 999, 1_000, 1_001];
+    let mut run = Run::new("25 on small markets");
+    let amounts: Vec<i64> = [
+        999 - 22,
+        999 + 22,
+        1_000 - 33,
+        1_000 + 33,
+        1_001 - 33,
+        1_001 + 33,
+    ]
+    .into_iter()
+    .flat_map(|limit| [limit - 1, limit, limit + 1])
+    .collect();
+    for code in 0..4_usize.pow(5) {
+        let value = |place: u32| VALUES[code / 4_usize.pow(place) % 4];
+        for (phase, open_elsewhere) in [(0, 0), (0, 1), (1, 0), (2, 0)] {
+            let market = Market {
+                phase,
+                open_elsewhere,
+                nbb: value(0),
+                nbo: value(1),
+                own_bid: value(2),
+                own_offer: value(3),
+                close: value(4),
+                ..EXAMPLE_MARKET
+            };
+            for order in [purchase(), sale()] {
+                for amount in &amounts {
+                    let arrival = Arrival {
+                        price: amount * order.price.signum(),
+                        settings: SETTINGS,
+                        market,
+                        ..order.clone()
+                    };
+                    run.compare(&arrival);
+                }
+            }
+        }
+    }
+    finish(&run, &[0, 25], 1_024 * 4 * 2 * 18);
+    assert!(run.given(0).min(run.given(25)) > 10_000);
+}

@@ -1,0 +1,121 @@
+//! Kind, flags, switches and the other yes-or-no numbers: 0 is no, any other value yes.
+
+use super::{finish, purchase, MARCH};
+use compare::{
+    arrival::Arrival,
+    run::Run,
+    series::{call, put},
+};
+
+const YES: [u64; 10] = [
+    1,
+    2,
+    255,
+    256,
+    1 << 16,
+    1 << 31,
+    1 << 32,
+    (1 << 32) + 1,
+    1 << 63,
+    u64::MAX,
+];
+
+/// An order whose answer depends on one number, and where that number stands.
+type Flag = (Arrival, fn(&mut Arrival) -> &mut u64);
+
+/// A purchase that 25 rejects, far above the NBO.
+fn far_above() -> Arrival {
+    let mut arrival = purchase();
+    arrival.price = 20_000;
+    arrival.market.nbo = 1_200;
+    arrival
+}
+
+/// A purchase that 20 rejects, at its strike.
+fn at_strike() -> Arrival {
+    Arrival::limit(&[put(MARCH, 18_000).leg(1)], 18_000)
+}
+
+/// A purchase that 21 rejects, at the underlying's value.
+fn at_underlying() -> Arrival {
+    let mut arrival = purchase();
+    arrival.market.underlying = 1_000;
+    arrival
+}
+
+fn calls(counts: [i64; 2], price: i64) -> Arrival {
+    let [low, high] = counts;
+    let legs = [call(MARCH, 10_000).leg(low), call(MARCH, 20_000).leg(high)];
+    Arrival::limit(&legs, price)
+}
+
+fn flags() -> Vec<Flag> {
+    let market_order = Arrival {
+        kind: 1,
+        ..at_strike()
+    };
+    let calendar = [call(MARCH, 20_000).leg(1), call(MARCH + 1, 20_000).leg(-1)];
+    let mut before_opening = far_above();
+    before_opening.market.phase = 0;
+    vec![
+        (far_above(), |arrival| &mut arrival.kind),
+        (far_above(), |arrival| &mut arrival.stop),
+        (far_above(), |arrival| &mut arrival.manual),
+        (market_order, |arrival| &mut arrival.opening),
+        (at_strike(), |arrival| &mut arrival.settings.switches[0]),
+        (at_underlying(), |arrival| &mut arrival.settings.switches[1]),
+        (calls([1, 1], 0), |arrival| {
+            &mut arrival.settings.switches[2]
+        }),
+        (calls([1, -1], -1), |arrival| {
+            &mut arrival.settings.switches[3]
+        }),
+        (calls([1, -1], 20_000), |arrival| {
+            &mut arrival.settings.switches[4]
+        }),
+        (far_above(), |arrival| &mut arrival.settings.switches[5]),
+        (at_underlying(), |arrival| &mut arrival.settings.adjusted),
+        (Arrival::limit(&calendar, 1), |arrival| {
+            &mut arrival.settings.european
+        }),
+        (before_opening, |arrival| &mut arrival.market.open_elsewhere),
+        (at_underlying(), |arrival| {
+            &mut arrival.market.extended_hours
+        }),
+    ]
+}
+
+#[test]
+fn any_other_value_is_yes() {
+    let mut run = Run::new("flags");
+    for (mut arrival, flag) in flags() {
+        *flag(&mut arrival) = 0;
+        let no = run.compare(&arrival);
+        *flag(&mut arrival) = 1;
+        let yes = run.compare(&arrival);
+        assert!(no.number.min(yes.number) == 0 && no.number != yes.number);
+        for value in YES {
+            *flag(&mut arrival) = value;
+            assert_eq!(run.compare(&arrival), yes, "{arrival}");
+        }
+    }
+    finish(&run, &[0, 20, 21, 22, 23, 24, 25], 14 * 12);
+}
+
+/// The switch of 26, set ticks and what else no order check reads change nothing.
+#[test]
+fn what_only_quotes_read_changes_nothing() {
+    let mut run = Run::new("only quotes");
+    let mut answers = 0;
+    for (arrival, _) in flags() {
+        let answer = run.compare(&arrival);
+        for value in [0, 1, 999, 1_000] {
+            let mut other = arrival.clone();
+            other.settings.switches[6] = value;
+            other.settings.set_ticks = value;
+            assert_eq!(run.compare(&other), answer, "{other}");
+            answers += 1;
+        }
+    }
+    assert_eq!(answers, 14 * 4);
+}

@@ -1,0 +1,21 @@
+//! Every example of the papers, held by both implementations. `src/examples.rs` says which were
+//! left out, and why.
+
+use compare::{examples, order, run::Run};
+
+#[test]
+fn both_hold_every_example() {
+    let mut run = Run::new("papers");
+    let document_01 = examples::of_document_01();
+    let filings = examples::of_filings();
+    assert_eq!((document_01.len(), filings.len()), (25, 39));
+    for example in document_01.iter().chain(&filings) {
+        let (arrival, place) = (&example.arrival, example.place);
+        assert_eq!(order::check(arrival), example.answer, "{place}");
+        run.expect(arrival, example.answer, place);
+    }
+    run.report();
+    for number in [0, 20, 21, 22, 23, 24, 25] {
+        assert!(run.given(number) > 0, "number {number}");
+    }
+}
