@@ -1,8 +1,8 @@
 -- Which numbers the entries' definitions give, and what a refusal leaves.
-use mathlib.Core.Path.{_≡_, refl, sym, _∙_}
+use mathlib.Core.Path.{_≡_, refl, sym, ap, _∙_}
 use mathlib.Core.Logic.{inl, inr, ⊎-elim}
 use mathlib.Core.List.{List, [], _∷_, List·Memᴰ, List·Memᴰ·head, List·Memᴰ·tail}
-use mathlib.Core.Bool.{Bool, true, false, _||_, true≢false}
+use mathlib.Core.Bool.{Bool, true, false, cond, not, _&&_, _||_, true≢false}
 use Prim.Native.Nat.{ℕ, zero, suc, _/_}
 use lib.ListN.{length}
 use lib.Dec.{eqb}
@@ -13,13 +13,21 @@ use Rattle.rules.specs.declared.Order.{Order}
 use Rattle.rules.specs.declared.Leg.{Leg}
 use Rattle.rules.specs.declared.Settings.{Settings}
 use Rattle.rules.specs.declared.Market.{Market}
+use Rattle.rules.specs.declared.Mills.{Mills}
+use Rattle.rules.specs.declared.Series.{Series}
+use Rattle.rules.specs.declared.OrderAnswer.{OrderAnswer}
+use Rattle.rules.specs.declared.Tally.{Tally}
 use Rattle.rules.specs.Limits.{within}
-use Rattle.rules.specs.Lists.{any}
-use Rattle.rules.specs.Order.{isYes, rawLegs, recordLegs, legsOf, units}
+use Rattle.rules.specs.Lists.{all, any}
+use Rattle.rules.specs.Order.{isYes, rawLegs, recordLegs, termsOf, seriesOf, legsOf, units}
 use Rattle.rules.specs.Pairing.{byStrike, bothWalks}
 use Rattle.rules.specs.Class.{classOf}
 use Rattle.rules.specs.Numbers.{refusals, refusal, rejections, rejection, judged, refused, outcome, checkLegs, checkOrder, areWhole, checkSlices}
-use Rattle.rules.specs.Demand1.{Reader, Writer, orderNumbers, OrderAnswers, OrderCheck}
+use Rattle.rules.specs.Symbol.{partsOf}
+use Rattle.rules.specs.Quote.{quoteRefusals, quoteRefusal, quoteRejections, quoteRejection, rejectedQuote, quoteOutcome, checkQuote}
+use Rattle.rules.specs.Tally.{isSpent, tallied, Call, orderAnswer, checkTallied}
+use Rattle.rules.specs.Demand1.{Reader, Writer, orderNumbers, OrderAnswers, OrderCheck, quoteNumbers, QuoteAnswers, QuoteCheck, TalliedAnswers, TalliedCheck}
+use Rattle.rules.proofs.Tests.{and-both}
 use Rattle.rules.proofs.Symbols.{read-cases, write-cases}
 use Rattle.rules.proofs.Numbering.{first-of}
 
@@ -36,6 +44,12 @@ writer p buffer =
     (λ a. rw (a .2) (record { number = inl refl; refusal = λ h. absurd (h refl) }))
     (λ r. ⊎-elim (λ b. rw b (record { number = inr (inl refl); refusal = λ h. (refl, refl) })) (λ d. rw d (record { number = inr (inr refl); refusal = λ h. (refl, refl) })) r)
     (write-cases p buffer)
+
+-- what holds of all listed numbers holds of each
+pub passes : (f : ℕ → Bool) (n : ℕ) (ns : List ℕ) → all f ns ≡ true → List·Memᴰ n ns → f n ≡ true
+unfolding all
+passes f n (m ∷ ns) h (List·Memᴰ·head e) = ap f e ∙ and-both (f m) (all f ns) h .0
+passes f n (m ∷ ns) h (List·Memᴰ·tail k) = passes f n ns (and-both (f m) (all f ns) h .1) k
 
 -- a number that stands in a list, found by computing
 member : (n : ℕ) (ns : List ℕ) → any (eqb n) ns ≡ true → List·Memᴰ n ns
@@ -89,3 +103,61 @@ order-check =
       slices = λ st m t symbols counts. slices-answers st m t symbols counts (areWhole symbols counts) refl;
       orderRecord = λ st m o. legs-answers st m (o .terms) (o .len) (recordLegs o);
     }
+
+-- ---- quotes
+
+module _ (st : Settings) (m : Market) where
+  abbrev IsQuoteRefusal : ℕ → Type 0
+  IsQuoteRefusal n = (any (eqb n) quoteNumbers ≡ true) × (within 20 26 n ≡ false)
+
+  quote-refusal-number : (symbol : List ℕ) (bid offer : Mills) → IsQuoteRefusal (quoteRefusal st m symbol bid offer)
+  unfolding quoteRefusal any
+  quote-refusal-number symbol bid offer =
+      first-of IsQuoteRefusal (quoteRefusals st m symbol bid offer) (refl, refl) (λ e. (refl, refl), (λ e. (refl, refl), (λ e. (refl, refl), (λ e. (refl, refl), (λ e. (refl, refl), tt)))))
+
+  -- a rejection is none of the refusals' numbers, and 20 to 26 where it is not 0
+  abbrev IsQuoteRejection : ℕ → Type 0
+  IsQuoteRejection n = (any (eqb n) quoteNumbers ≡ true) × (within 1 12 n ≡ false) × (within 20 26 n ≡ not (eqb n 0))
+
+  quote-rejection-number : (s : Series) (bid offer : Mills) → IsQuoteRejection (quoteRejection st m s bid offer)
+  unfolding quoteRejection any
+  quote-rejection-number s bid offer =
+      first-of IsQuoteRejection (quoteRejections st m s bid offer) (refl, refl, refl) (λ e. (refl, refl, refl), (λ e. (refl, refl, refl), (λ e. (refl, refl, refl), tt)))
+
+  quote-answers : (symbol : List ℕ) (bid offer : Mills) (resting : ℕ) → QuoteAnswers resting (checkQuote st m symbol bid offer resting)
+  unfolding checkQuote quoteOutcome
+  quote-answers symbol bid offer resting = go (quoteRefusal st m symbol bid offer) (quote-refusal-number symbol bid offer)
+    where
+      no-flag : (b : Bool) → _≡_ {A = ℕ} 0 (cond (b && false) 1 0)
+      no-flag true = refl
+      no-flag false = refl
+
+      go : (k : ℕ) → IsQuoteRefusal k → QuoteAnswers resting (quoteOutcome k (rejectedQuote resting (quoteRejection st m (seriesOf (partsOf symbol)) bid offer)))
+      go zero h =
+          let r = quote-rejection-number (seriesOf (partsOf symbol)) bid offer in
+          record {
+            number = member _ quoteNumbers (r .0);
+            refusal = λ e. absurd (true≢false (sym e ∙ r .1));
+            flag = ap (λ (b : Bool). cond (isYes resting && b) 1 0) (sym (r .2));
+          }
+      go (suc k) h = record { number = member (suc k) quoteNumbers (h .0); refusal = λ e. refl; flag = rw (h .1) (no-flag (isYes resting)) }
+
+pub quote-check : QuoteCheck
+quote-check st m symbol bid offer resting = quote-answers st m symbol bid offer resting
+
+-- ---- the tally
+
+pub order-answers : (c : Call) → OrderAnswers (orderAnswer c)
+order-answers c =
+    let a = c .alike in
+    order-check .slices (a .settings) (a .market) (termsOf (a .price) (a .kind) (a .stop) (a .manual) (a .opening)) (c .symbols) (c .counts)
+
+tallied-answers : (t : Tally) (a : OrderAnswer) → OrderAnswers a → (b : Bool) → isSpent t ≡ b → TalliedAnswers t (tallied t a)
+unfolding tallied all
+tallied-answers t a h true e = rw e (record { number = List·Memᴰ·head refl; refusal = λ f. (refl, refl, refl); unchanged = λ f. refl })
+tallied-answers t a h false e =
+    rw e (record { number = List·Memᴰ·tail (h .number); refusal = h .refusal; unchanged = λ f. absurd (true≢false (sym (passes (λ n. not (eqb n 12)) (a .number) orderNumbers refl (h .number)) ∙ ap (λ (n : ℕ). not (eqb n 12)) f)) })
+
+pub tallied-check : TalliedCheck
+unfolding checkTallied
+tallied-check t c = tallied-answers t (orderAnswer c) (order-answers c) (isSpent t) refl

@@ -25,3 +25,4 @@ pub mod Examples
 pub mod Demand1
 pub mod Demand2
 pub mod Demand3
+pub mod Tallying

@@ -2,7 +2,7 @@
 use mathlib.Core.Path.{_≡_}
 use mathlib.Core.Logic.{_⊎_}
 use mathlib.Core.List.{List, [], _∷_, List·Memᴰ}
-use mathlib.Core.Bool.{true}
+use mathlib.Core.Bool.{true, cond, _&&_}
 use Prim.Native.Nat.{ℕ}
 use Rattle.rules.specs.declared.SymbolParts.{SymbolParts}
 use Rattle.rules.specs.declared.SymbolRead.{SymbolRead}
@@ -11,8 +11,15 @@ use Rattle.rules.specs.declared.Order.{Order}
 use Rattle.rules.specs.declared.Settings.{Settings}
 use Rattle.rules.specs.declared.Market.{Market}
 use Rattle.rules.specs.declared.OrderAnswer.{OrderAnswer}
+use Rattle.rules.specs.declared.Mills.{Mills}
+use Rattle.rules.specs.declared.QuoteAnswer.{QuoteAnswer}
+use Rattle.rules.specs.declared.Tally.{Tally}
+use Rattle.rules.specs.declared.TalliedAnswer.{TalliedAnswer}
 use Rattle.rules.specs.Limits.{within}
+use Rattle.rules.specs.Order.{isYes}
 use Rattle.rules.specs.Numbers.{checkOrder, checkSlices}
+use Rattle.rules.specs.Quote.{checkQuote}
+use Rattle.rules.specs.Tally.{Call, checkTallied}
 use Rattle.rules.specs.Symbol.{readSymbol, writeSymbol, SymbolWritten}
 
 -- the symbol reader: 0, 1 or 4
@@ -42,3 +49,25 @@ pub record OrderAnswers (r : OrderAnswer) : Type 0 where
 pub record OrderCheck : Type 0 where
   pub slices : (st : Settings) (m : Market) (t : Terms) (symbols counts : List ℕ) → OrderAnswers (checkSlices st m t symbols counts)
   pub orderRecord : (st : Settings) (m : Market) (o : Order) → OrderAnswers (checkOrder st m o)
+
+-- the quote check
+abbrev pub quoteNumbers : List ℕ
+quoteNumbers = 0 ∷ 1 ∷ 4 ∷ 9 ∷ 10 ∷ 11 ∷ 20 ∷ 21 ∷ 26 ∷ []
+
+pub record QuoteAnswers (resting : ℕ) (r : QuoteAnswer) : Type 0 where
+  pub number : List·Memᴰ (r .number) quoteNumbers
+  pub refusal : within 1 12 (r .number) ≡ true → r .cancel ≡ 0
+  -- "set if 20, 21 or 26 rejects a quote with one resting, else clear"
+  pub flag : r .cancel ≡ cond (isYes resting && within 20 26 (r .number)) 1 0
+
+abbrev pub QuoteCheck : Type 0
+QuoteCheck = (st : Settings) (m : Market) (symbol : List ℕ) (bid offer : Mills) (resting : ℕ) → QuoteAnswers resting (checkQuote st m symbol bid offer resting)
+
+-- the tallied check, of the tally that comes: a refusal's other fields but the tally are zero, and on 12 the tally is as it came
+pub record TalliedAnswers (t : Tally) (r : TalliedAnswer) : Type 0 where
+  pub number : List·Memᴰ (r .answer .number) (12 ∷ orderNumbers)
+  pub refusal : within 1 12 (r .answer .number) ≡ true → (r .answer .class ≡ 0) × (r .answer .shape ≡ 0) × (r .answer .pairings ≡ 0)
+  pub unchanged : r .answer .number ≡ 12 → r .tally ≡ t
+
+abbrev pub TalliedCheck : Type 0
+TalliedCheck = (t : Tally) (c : Call) → TalliedAnswers t (checkTallied t c)

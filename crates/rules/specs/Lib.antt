@@ -15,3 +15,5 @@ pub mod Examples
 pub mod Demand1
 pub mod Demand2
 pub mod Demand3
+pub mod Quote
+pub mod Tally

@@ -122,3 +122,23 @@ pub struct OrderAnswer {
     pub shape: u64,
     pub pairings: u64,
 }
+
+// What the quote check answers. Cancel: 1 where the resting quote is to be cancelled, else 0.
+pub struct QuoteAnswer {
+    pub number: u64,
+    pub cancel: u64,
+}
+
+// A session's tally of order checks.
+pub struct Tally {
+    pub seen: u64,
+    pub refused: u64,
+    pub accepted: u64,
+    pub rejected: u64,
+}
+
+// What the tallied check answers, and the tally after it.
+pub struct TalliedAnswer {
+    pub answer: OrderAnswer,
+    pub tally: Tally,
+}
