@@ -14,7 +14,7 @@ ghost use Rattle.rules.specs.Numbers.{refused, checkOrder, checkSlices};
 pub mod judge;
 
 // A refusal has no class, shape or pairings.
-fn refused(number: u64) -> OrderAnswer
+pub fn refused(number: u64) -> OrderAnswer
     ensures { λ r. ⌜ r ≡ refused number ⌝ }
 {
     OrderAnswer {

@@ -1,0 +1,49 @@
+// A session's tally: its own test, and its step by the number that a check gave.
+use choice::either;
+use choice::negated;
+use choice::pick;
+use choice::within;
+use rules::Tally;
+ghost use mathlib.Core.Path.{_≡_};
+ghost use mathlib.Core.Bool.{false};
+ghost use Prim.Native.Nat.{_≤_};
+ghost use Rattle.rules.specs.Tally.{isSpent, oneMore, counted};
+
+// Full, or broken. The three parts together might not fit a word, so they are taken from what was seen.
+pub fn is_spent(t: Tally) -> bool
+    ensures { λ r. ⌜ r ≡ isSpent t ⌝ }
+{
+    if 1000000 <= t.seen {
+        return true;
+    }
+    if t.seen < t.refused {
+        return true;
+    }
+    let rest = t.seen - t.refused;
+    if rest < t.accepted {
+        return true;
+    }
+    rest - t.accepted != t.rejected
+}
+
+fn one_more(b: bool, n: u64) -> u64
+    requires { ⌜ n ≤ 1000000 ⌝ }
+    ensures { λ r. ⌜ r ≡ oneMore b n ⌝ }
+{
+    pick(b, n + 1, n)
+}
+
+// One more seen, and one more of the number's kind.
+pub fn counted(t: Tally, number: u64) -> Tally
+    requires { ⌜ isSpent t ≡ false ⌝ }
+    ensures { λ r. ⌜ r ≡ counted t number ⌝ }
+{
+    let accepted = number == 0;
+    let rejected = within(20, 26, number);
+    Tally {
+        seen: t.seen + 1,
+        refused: one_more(negated(either(accepted, rejected)), t.refused),
+        accepted: one_more(accepted, t.accepted),
+        rejected: one_more(rejected, t.rejected),
+    }
+}
