@@ -1,0 +1,29 @@
+-- The host's numbers are the definitions' records, and an answer is its fields.
+use mathlib.Core.Path.{_≡_}
+use mathlib.Core.List.{List}
+use Prim.Native.Nat.{ℕ}
+use Rattle.rules.specs.declared.Terms.{Terms}
+use Rattle.rules.specs.declared.Settings.{Settings}
+use Rattle.rules.specs.declared.Market.{Market}
+use Rattle.rules.specs.declared.OrderAnswer.{OrderAnswer}
+use Rattle.rules.specs.declared.Tally.{Tally}
+use Rattle.rules.specs.declared.TalliedAnswer.{TalliedAnswer}
+use Rattle.rules.specs.Numbers.{checkSlices}
+use Rattle.rules.specs.Tally.{tallied, Call, orderAnswer, checkTallied}
+
+pub same-check : (symbols counts : List ℕ) {st st′ : Settings} {m m′ : Market} {t t′ : Terms} → st ≡ st′ → m ≡ m′ → t ≡ t′ → checkSlices st m t symbols counts ≡ checkSlices st′ m′ t′ symbols counts
+same-check symbols counts p q r = λ i. checkSlices (p i) (q i) (r i) symbols counts
+
+-- an answer is its fields
+pub fields : (a : OrderAnswer) {b : OrderAnswer} → a ≡ b → record { number = a .number; class = a .class; shape = a .shape; pairings = a .pairings } ≡ b
+fields a p = λ i. record { number = p i .number; class = p i .class; shape = p i .shape; pairings = p i .pairings }
+
+abbrev inFields : OrderAnswer → OrderAnswer
+inFields a = record { number = a .number; class = a .class; shape = a .shape; pairings = a .pairings }
+
+abbrev tallyFields : Tally → Tally
+tallyFields t = record { seen = t .seen; refused = t .refused; accepted = t .accepted; rejected = t .rejected }
+
+pub tallied-fields : (r : TalliedAnswer) (t : Tally) (c : Call) → r ≡ tallied t (orderAnswer c) → record { answer = inFields (r .answer); tally = tallyFields (r .tally) } ≡ checkTallied t c
+unfolding checkTallied
+tallied-fields r t c p = λ i. record { answer = inFields (p i .answer); tally = tallyFields (p i .tally) }
