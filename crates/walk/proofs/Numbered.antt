@@ -4,7 +4,9 @@ use mathlib.Core.List.{List, [], _∷_, _++_, zipWith}
 use mathlib.Core.Bool.{Bool}
 use Prim.Native.Nat.{ℕ, _+_, _-_, _/_, _<_, _≤_}
 use native.Mathlib.Omega.{arith}
+use native.Mathlib.Nat.{sub-zero}
 use lib.ListN.{length, take, drop, getD, set}
+use lib.Seq.{set-getD}
 use Rattle.rules.specs.declared.Leg.{Leg}
 use Rattle.rules.specs.Pairing.{Reached, less, pairOf, matched, reach, walk}
 use Rattle.rules.specs.Order.{noLeg}
@@ -23,6 +25,10 @@ inner tags n second root left t tx x j =
 pub record Outer (tags : List ℕ) (n : ℕ) (second : Bool) (root : ℕ) (left₀ left : List ℕ) (t : Tally) (i : ℕ) : Type 0 where
   pub done : take n (legsFrom root second tags left) ≡ take i (legsFrom root second tags left₀) ++ walk (together second) (drop i (take n (legsFrom root second tags left₀))) .legs
   pub counted : t ≡ noted none (walk (together second) (drop i (take n (legsFrom root second tags left₀))) .pairs)
+
+note-none : (t : Tally) (second : Bool) (tx ty : ℕ) → t ≡ noteAt t second tx ty 0
+unfolding noteAt
+note-none t second tx ty = refl
 
 module _ (tags : List ℕ) (tg : Tagged tags) (n : ℕ) (fits : n ≤ 16) (second : Bool) (root : ℕ) where
   abbrev legs : List ℕ → List Leg
@@ -50,6 +56,15 @@ module _ (tags : List ℕ) (tg : Tagged tags) (n : ℕ) (fits : n ≤ 16) (secon
       let s : legs (set left j (y - m)) ≡ set (legs left) j (legAt root second ty (y - m)) = zip-set (legAt root second) tags left j 0 (y - m) (omega (arith, tg .full)) in
       ap (λ (v : List Leg). view t′ (take (j + 1) v) (reach (together second) (legAt root second tx (x - m)) (drop (j + 1) (take n v)))) s
       ∙ met (legs left) n (legs-full left l) fits (together second) t t′ (legAt root second tx x) (legAt root second tx (x - m)) (legAt root second ty (y - m)) j m h e₁ e₂ e₃ refl
+
+  -- where nothing is matched, nothing changes
+  pub inner-skip : (left : List ℕ) (t : Tally) (tx x j : ℕ) → length left ≡ 16 → tx < 40000000000000000 → j < n → matchedAt tx x (getD tags j 0) (getD left j 0) ≡ 0
+      → inner tags n second root left t tx x (j + 1) ≡ inner tags n second root left t tx x j
+  inner-skip left t tx x j l small h e =
+      let same : set left j (getD left j 0 - 0) ≡ left = rw sub-zero (set-getD left j 0) in
+      ap (λ (v : List ℕ). inner tags n second root v t tx x (j + 1)) (sym same)
+      ∙ ap (λ (y : ℕ). inner tags n second root (set left j (getD left j 0 - 0)) t tx y (j + 1)) (sym (sub-zero x))
+      ∙ inner-turn left t t tx x j 0 l small h (sym e) (note-none t second tx (getD tags j 0))
 
   -- the leg at `i` has met all, and is put back
   module _ (left₀ left : List ℕ) (l₀ : length left₀ ≡ 16) (l : length left ≡ 16) (t₀ t : Tally) (x i j : ℕ) (h : i < n) (last : j ≡ n)

@@ -73,13 +73,17 @@ fn reach(
     let mut r = t;
     let mut j = i + 1;
     while j < n {
-        let ty = tags[j];
-        let y = left[j];
-        let m = matched(tx, x, ty, y);
-        r = note(r, second, tx, ty, m);
-        left[j] = y - m;
-        x -= m;
+        let at = j;
         j += 1;
+        let ty = tags[at];
+        let y = left[at];
+        let m = matched(tx, x, ty, y);
+        // Most legs do not meet: nothing is stored for them.
+        if m != 0 {
+            r = note(r, second, tx, ty, m);
+            left[at] = y - m;
+            x -= m;
+        }
     }
     left[i] = x;
     r

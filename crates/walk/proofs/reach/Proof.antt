@@ -1,12 +1,11 @@
 -- What the loop still has to meet, after what it has met, gives what the definition gives.
-use borrow.Author.Needs.{needs}
-use mathlib.Core.Path.{_≡_, refl, sym, ap, _∙_}
+use mathlib.Core.Path.{_≡_, refl, sym, _∙_}
 use Prim.Native.Nat.{ℕ, _≤_, _-_, _<_, _+_}
 use native.Mathlib.Omega.{arith}
-use lib.ListN.{length, getD, set, length-set}
-use Rattle.walk.specs.Tags.{matchedAt}
+use lib.ListN.{length, getD, length-set}
 use Rattle.walk.proofs.Tagging.{matched-small}
-use Rattle.walk.proofs.Numbered.{inner, inner-turn, inner-legs, inner-tally}
+use Rattle.walk.proofs.Numbered.{inner, inner-turn, inner-skip, inner-legs, inner-tally}
+use borrow.Author.Needs.{needs}
 use Rattle.walk.proofs.reach.Statement.{statement}
 use Rattle.walk.proofs.reach.Tie as tie
 
@@ -26,31 +25,47 @@ loop-holds c = ((λ root. refl), omega arith, omega arith, omega arith, omega ar
 
 sub-left : tie.Need-sub-left Inv-loop μ-loop
 sub-left c =
-    let l = c .before .before .before .before .before .loop in
-    let a = c .before .before .before .before .before .before .before .before .args in
-    rw (c .before .matched .ensures) (matched-small (getD (a .tags .now) (a .i) 0) (l .x) (getD (a .tags .now) (l .j) 0) (getD (l .left) (l .j) 0) .1)
+    let l = c .before .before .before .before .before .before .loop in
+    let a = c .before .before .before .before .before .before .before .before .before .args in
+    rw (c .before .before .matched .ensures) (matched-small (getD (a .tags .now) (a .i) 0) (l .x) (getD (a .tags .now) (l .j) 0) (getD (l .left) (l .j) 0) .1)
 
 sub-x : tie.Need-sub-x Inv-loop μ-loop
 sub-x c =
-    let l = c .before .before .before .before .before .loop in
-    let a = c .before .before .before .before .before .before .before .before .args in
-    rw (c .before .matched .ensures) (matched-small (getD (a .tags .now) (a .i) 0) (l .x) (getD (a .tags .now) (l .j) 0) (getD (l .left) (l .j) 0) .0)
+    let l = c .before .before .before .before .before .before .loop in
+    let a = c .before .before .before .before .before .before .before .before .before .args in
+    rw (c .before .before .matched .ensures) (matched-small (getD (a .tags .now) (a .i) 0) (l .x) (getD (a .tags .now) (l .j) 0) (getD (l .left) (l .j) 0) .0)
 
 loop-again : tie.Need-loop-again Inv-loop μ-loop
 loop-again c =
-    let s = c .before .before .before .before .before .before .before .before in
+    let s = c .before .before .before .before .before .before .before .before .before in
     let a = s .args in
-    let l = c .before .before .before .before .before .loop in
-    let m = c .before .matched .result in
+    let l = c .before .before .before .before .before .before .loop in
+    let m = c .before .before .matched .result in
     let full : length (l .left) ≡ 16 = l .inv .3 in
     let h : l .j < a .n = omega arith in
     let fits : a .n ≤ 16 = omega (arith, s .pre) in (
       (λ root.
-          inner-turn (a .tags .now) (s .pre .0) (a .n) fits (a .second) root (l .left) (l .r) (c .note .result) (getD (a .tags .now) (a .i) 0) (l .x) (l .j) m full (s .pre .0 .small (a .i)) h (c .before .matched .ensures) (c .note .ensures .0)
+          inner-turn (a .tags .now) (s .pre .0) (a .n) fits (a .second) root (l .left) (l .r) (c .note .result) (getD (a .tags .now) (a .i) 0) (l .x) (l .j) m full (s .pre .0 .small (a .i)) h (c .before .before .matched .ensures) (c .note .ensures .0)
           ∙ l .inv .0 root),
       omega arith,
       omega arith,
       length-set (l .left) (l .j) (getD (l .left) (l .j) 0 - m) ∙ full,
+      omega arith,
+    )
+
+loop-again-2 : tie.Need-loop-again-2 Inv-loop μ-loop
+loop-again-2 c =
+    let s = c .before .before .before .before .before .before .before .before in
+    let a = s .args in
+    let l = c .before .before .before .before .before .loop in
+    let h : l .j < a .n = omega arith in
+    let fits : a .n ≤ 16 = omega (arith, s .pre) in (
+      (λ root.
+          inner-skip (a .tags .now) (s .pre .0) (a .n) fits (a .second) root (l .left) (l .r) (getD (a .tags .now) (a .i) 0) (l .x) (l .j) (l .inv .3) (s .pre .0 .small (a .i)) h (sym (c .before .matched .ensures) ∙ c .if1 .left)
+          ∙ l .inv .0 root),
+      omega arith,
+      omega arith,
+      l .inv .3,
       omega arith,
     )
 
@@ -85,6 +100,7 @@ reach-spec =
     (λ c. search needs)
     (λ c. search needs)
     (λ c. search needs)
+    (λ c. search needs)
     (λ c κs. tt)
     (λ c κs. search needs)
     sub-left
@@ -92,8 +108,9 @@ reach-spec =
     (λ c. search needs)
     sub-x
     (λ c. search needs)
-    (λ c. search needs)
     loop-again
+    (λ c. search needs)
+    loop-again-2
     (λ c. search needs)
     (λ c. search needs)
     returns)
