@@ -12,7 +12,7 @@ ghost use mathlib.Core.Path.{_≡_};
 ghost use Prim.Native.Nat.{_≤_};
 ghost use lib.ListN.{length};
 ghost use Rattle.rules.specs.Order.{word};
-ghost use Rattle.rules.specs.Examples.{exampleSettings, exampleMarket};
+ghost use Rattle.rules.specs.Examples.{exampleSettings};
 
 // What an example gives beside its legs and its price.
 pub enum Given {

@@ -87,18 +87,13 @@ fn show(case: u64, given: Given, legs: Legs, price: i64)
     table::row(case, given, legs, price, answer);
 }
 
-fn main() {
-    table::head();
+fn t1() {
     let t1 = three(
         sell(5, JAN, 20, CALL),
         buy(10, JAN, 30, CALL),
         sell(5, JAN, 40, CALL),
     );
     show(1, Given::Nothing, t1, 15000);
-    t2_to_t4();
-    t5_to_t7();
-    t8_to_t10();
-    t11_and_t12();
 }
 
 fn t2_to_t4() {
@@ -184,4 +179,13 @@ fn t11_and_t12() {
     let t12 = one(buy(1, JAN, 20, CALL));
     show(12, Given::Offer, t12, 1250);
     show(12, Given::Offer, t12, 1251);
+}
+
+fn main() {
+    table::head();
+    t1();
+    t2_to_t4();
+    t5_to_t7();
+    t8_to_t10();
+    t11_and_t12();
 }

@@ -63,7 +63,7 @@ pub fn head() {
     text(0, b"pairings\n");
 }
 
-fn given(g: Given) {
+fn write_given(g: Given) {
     match g {
         Given::Nothing => column(16, b""),
         Given::EuropeanIndex => column(16, b"European index"),
@@ -72,7 +72,7 @@ fn given(g: Given) {
     }
 }
 
-fn month(width: usize, n: u64) -> usize {
+fn write_month(width: usize, n: u64) -> usize {
     match n {
         1 => text(width, b" Jan "),
         3 => text(width, b" Mar "),
@@ -81,7 +81,7 @@ fn month(width: usize, n: u64) -> usize {
     }
 }
 
-fn side(width: usize, bought: bool) -> usize {
+fn write_side(width: usize, bought: bool) -> usize {
     if bought {
         text(width, b"+")
     } else {
@@ -89,7 +89,7 @@ fn side(width: usize, bought: bool) -> usize {
     }
 }
 
-fn right(width: usize, byte: u64) -> usize {
+fn write_right(width: usize, byte: u64) -> usize {
     if byte == 67 {
         text(width, b"C")
     } else {
@@ -97,12 +97,12 @@ fn right(width: usize, byte: u64) -> usize {
     }
 }
 
-fn leg(width: usize, t: Traded) -> usize {
-    let after_side = side(width, t.bought);
+fn write_leg(width: usize, t: Traded) -> usize {
+    let after_side = write_side(width, t.bought);
     let after_size = decimal(after_side, t.size);
-    let after_month = month(after_size, t.month);
+    let after_month = write_month(after_size, t.month);
     let after_strike = decimal(after_month, t.dollars as u64);
-    right(after_strike, t.right)
+    write_right(after_strike, t.right)
 }
 
 // Two blanks before every leg but the first.
@@ -113,14 +113,14 @@ fn apart(width: usize, i: usize) -> usize {
     text(width, b"  ")
 }
 
-fn legs(l: Legs)
+fn write_legs(l: Legs)
     requires { ⌜ l .len ≤ 4 ⌝ }
 {
     let n = l.len;
     let mut width = 46;
     for i in 0..n {
         let t = l.legs[i];
-        width = leg(apart(width, i), t);
+        width = write_leg(apart(width, i), t);
     }
     blanks(width);
 }
@@ -133,7 +133,7 @@ fn thousandths(n: u64) {
 }
 
 // Dollars, flush right.
-fn price(mills: i64) {
+fn write_price(mills: i64) {
     let p = terms::price_of(mills);
     let dollars = p.size.0 / 1000;
     let width = less(5, digits(dollars));
@@ -148,7 +148,7 @@ fn price(mills: i64) {
     thousandths(p.size.0);
 }
 
-fn number(n: u64) {
+fn write_number(n: u64) {
     blanks(less(4, digits(n)));
     decimal(0, n);
     text(0, b" ");
@@ -164,7 +164,7 @@ fn number(n: u64) {
     }
 }
 
-fn class(n: u64) {
+fn write_class(n: u64) {
     match n {
         0 => column(16, b"0 undetermined"),
         1 => column(16, b"1 debit"),
@@ -173,7 +173,7 @@ fn class(n: u64) {
     }
 }
 
-fn shape(n: u64) {
+fn write_shape(n: u64) {
     match n {
         0 => column(20, b"0 other"),
         1 => column(20, b"1 vertical"),
@@ -184,7 +184,7 @@ fn shape(n: u64) {
     }
 }
 
-fn pairings(n: u64) {
+fn write_pairings(n: u64) {
     decimal(0, n);
     if n == 1 {
         text(0, b" pairing\n");
@@ -198,11 +198,11 @@ pub fn row(case: u64, g: Given, l: Legs, mills: i64, answer: OrderAnswer)
 {
     text(0, b"T");
     blanks(decimal(5, case));
-    given(g);
-    legs(l);
-    price(mills);
-    number(answer.number);
-    class(answer.class);
-    shape(answer.shape);
-    pairings(answer.pairings);
+    write_given(g);
+    write_legs(l);
+    write_price(mills);
+    write_number(answer.number);
+    write_class(answer.class);
+    write_shape(answer.shape);
+    write_pairings(answer.pairings);
 }
