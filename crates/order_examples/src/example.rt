@@ -9,7 +9,8 @@ use rules::Settings;
 use rules::SymbolParts;
 use terms::terms_of;
 ghost use mathlib.Core.Path.{_≡_};
-ghost use Prim.Native.Nat.{_≤_};
+ghost use mathlib.Core.Bool.{true, false};
+ghost use Prim.Native.Nat.{_+_, _%_, _^_, _≤_};
 ghost use lib.ListN.{length};
 ghost use Rattle.rules.specs.Order.{word};
 ghost use Rattle.rules.specs.Examples.{exampleSettings};
@@ -63,8 +64,10 @@ fn parts_of(t: Traded) -> SymbolParts {
     }
 }
 
-// Two's complement.
-fn count_of(t: Traded) -> u64 {
+// Two's complement: a count sold is what is missing to 2^64.
+fn count_of(t: Traded) -> u64
+    ensures { λ r. ⌜ (t .bought ≡ true → r ≡ t .size) × (t .bought ≡ false → (r + t .size) % 2 ^ 64 ≡ 0) ⌝ }
+{
     if t.bought {
         return t.size;
     }
