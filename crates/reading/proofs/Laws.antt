@@ -1,14 +1,15 @@
 -- A leg, from the parts that its symbol says.
-use mathlib.Core.Path.{_≡_, refl, ap}
-use mathlib.Core.List.{[]}
-use mathlib.Core.Bool.{false}
+use mathlib.Core.Path.{_≡_, ap, _∙_}
 use Rattle.rules.specs.declared.SymbolParts.{SymbolParts}
+use Rattle.rules.specs.declared.Series.{Series}
 use Rattle.rules.specs.declared.RawLeg.{RawLeg}
 use Rattle.rules.specs.declared.Leg.{Leg}
 use Rattle.rules.specs.Symbol.{partsOf}
 use Rattle.rules.specs.Order.{seriesOf, legOf}
 
-pub leg-read : (raw : RawLeg) (p : SymbolParts) → p ≡ partsOf (raw .symbol)
-    → record { root = p .root; series = seriesOf p; bought = raw .bought; size = raw .size } ≡ legOf raw
+abbrev legWith : RawLeg → SymbolParts → Series → Leg
+legWith raw p s = record { root = p .root; series = s; bought = raw .bought; size = raw .size }
+
+pub leg-read : (raw : RawLeg) (p : SymbolParts) (s : Series) → p ≡ partsOf (raw .symbol) → s ≡ seriesOf p → legWith raw p s ≡ legOf raw
 unfolding legOf
-leg-read raw p e = ap (λ (q : SymbolParts). record { root = q .root; series = seriesOf q; bought = raw .bought; size = raw .size }) e
+leg-read raw p s e f = ap (legWith raw p) f ∙ ap (λ (q : SymbolParts). legWith raw q (seriesOf q)) e

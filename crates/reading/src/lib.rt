@@ -1,4 +1,4 @@
-// The legs of an order record as read.
+// The series that a symbol's parts say, and the legs of an order record as read.
 use choice::either;
 use choice::negated;
 use rules::Leg;
@@ -7,10 +7,25 @@ use rules::Mills;
 use rules::Order;
 use rules::RawLeg;
 use rules::Series;
+use rules::SymbolParts;
 use symbol::reader::is_symbol;
 use symbol::reader::parts_of;
-ghost use Prim.Native.Nat.{_≤_};
+ghost use mathlib.Core.Path.{_≡_};
+ghost use Prim.Native.Nat.{_≤_, _<_};
+ghost use Rattle.rules.specs.Order.{seriesOf};
 ghost use Rattle.reading.specs.Legs.{IsLegRead, AreLegsRead};
+
+// The bounds are those of the parts of any 21 bytes.
+pub fn series_of(p: SymbolParts) -> Series
+    requires { ⌜ (p .year < 5000) × (p .month < 3000) × (p .day < 3000) ⌝ }
+    ensures { λ r. ⌜ r ≡ seriesOf p ⌝ }
+{
+    Series {
+        call: p.right == 67,
+        expiry: p.year * 10000 + p.month * 100 + p.day,
+        strike: Mills(p.strike.0),
+    }
+}
 
 // One leg, and whether its symbol is in the layout. Of any other 21 bytes the leg is read all the same.
 pub struct LegRead {
@@ -24,13 +39,10 @@ pub fn leg_of(raw: RawLeg) -> LegRead
     let symbol = raw.symbol;
     let p = parts_of(&symbol);
     let good = is_symbol(&symbol, p);
+    let series = series_of(p);
     let leg = Leg {
         root: p.root,
-        series: Series {
-            call: p.right == 67,
-            expiry: p.year * 10000 + p.month * 100 + p.day,
-            strike: Mills(p.strike.0),
-        },
+        series: series,
         bought: raw.bought,
         size: raw.size,
     };

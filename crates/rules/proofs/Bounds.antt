@@ -2,15 +2,20 @@
 use mathlib.Core.Path.{_≡_}
 use mathlib.Core.Bool.{Bool, true, false, cond, not, _&&_, _||_}
 use Prim.Native.Nat.{ℕ, _≤_}
+use native.Mathlib.Omega.{arith}
+use native.Mathlib.Nat.{mul-le-mul}
 use lib.Dec.{eqb, ltb}
+use borrow.Author.Tests.{not-false}
 use Rattle.rules.specs.declared.Mills.{Mills}
 use Rattle.rules.specs.declared.Ticks.{Ticks}
 use Rattle.rules.specs.declared.Settings.{Settings}
 use Rattle.rules.specs.declared.Market.{Market}
 use Rattle.rules.specs.Order.{isYes}
 use Rattle.rules.specs.Limits.{within}
-use Rattle.rules.specs.Market.{settingsHold, marketHolds, isMissing, isUnusable, national, atOrPast, elsewhereReference, reference, acceptableTicks, tickAt}
-use Rattle.rules.proofs.Tests.{within-both, passed}
+use Rattle.rules.specs.Quantities.{distance}
+use Rattle.rules.specs.Market.{settingsHold, marketHolds, isMissing, isUnusable, national, own, atOrPast, elsewhereReference, reference, acceptableTicks, tickAt}
+use Rattle.rules.specs.Quote.{comparison, isBadQuote}
+use Rattle.rules.proofs.Tests.{within-both, passed, or-neither}
 
 most : (least greatest x : ℕ) → within least greatest x ≡ true → x ≤ greatest
 most least greatest x h = within-both least greatest x h .1
@@ -62,18 +67,55 @@ pub tick-bound : (st : Settings) (r : Mills) → settingsHold st ≡ true → ti
 unfolding tickAt
 tick-bound st r h = let b = settings-bounds st h in either (λ (x : Mills). x .0 ≤ 1000) (ltb (r .0) 3000) (b .lowtick) (b .hightick)
 
-pub reference-bound : (bought : Bool) (m : Market) → marketHolds m ≡ true → reference bought m .0 ≤ 1000000000
-unfolding marketHolds reference elsewhereReference
-reference-bound bought m h =
+pub distance-bound : (ticks : Ticks) (tick : Mills) → ticks .0 ≤ 1000 → tick .0 ≤ 1000 → distance ticks tick .0 ≤ 1000000
+unfolding distance
+distance-bound ticks tick h k = omega (arith, mul-le-mul h k)
+
+abbrev small : Mills → Type 0
+small x = x .0 ≤ 1000000000
+
+record MarketBounds (m : Market) : Type 0 where
+  pub nbb : small (m .nbb)
+  pub nbo : small (m .nbo)
+  pub bid : small (m .bid)
+  pub offer : small (m .offer)
+  pub close : small (m .close)
+
+market-bounds : (m : Market) → marketHolds m ≡ true → MarketBounds m
+unfolding marketHolds
+market-bounds m h =
     let p = passed _ h in
-    let small : Mills → Type 0 = λ x. x .0 ≤ 1000000000 in
-    let nbb : small (m .nbb) = most 0 1000000000 (m .nbb .0) (p .1 .1 .0) in
-    let nbo : small (m .nbo) = most 0 1000000000 (m .nbo .0) (p .1 .1 .1 .0) in
-    let bid : small (m .bid) = most 0 1000000000 (m .bid .0) (p .1 .1 .1 .1 .0) in
-    let offer : small (m .offer) = most 0 1000000000 (m .offer .0) (p .1 .1 .1 .1 .1 .0) in
-    let close : small (m .close) = most 0 1000000000 (m .close .0) (p .1 .1 .1 .1 .1 .1 .0) in
-    let met : small (national bought m) = either small bought nbo nbb in
+    record {
+      nbb = most 0 1000000000 (m .nbb .0) (p .1 .1 .0);
+      nbo = most 0 1000000000 (m .nbo .0) (p .1 .1 .1 .0);
+      bid = most 0 1000000000 (m .bid .0) (p .1 .1 .1 .1 .0);
+      offer = most 0 1000000000 (m .offer .0) (p .1 .1 .1 .1 .1 .0);
+      close = most 0 1000000000 (m .close .0) (p .1 .1 .1 .1 .1 .1 .0);
+    }
+
+-- the prices that a side meets
+national-bound : (bought : Bool) (m : Market) → MarketBounds m → small (national bought m)
+national-bound bought m b = either small bought (b .nbo) (b .nbb)
+
+own-bound : (bought : Bool) (m : Market) → MarketBounds m → small (own bought m)
+own-bound bought m b = either small bought (b .offer) (b .bid)
+
+pub reference-bound : (bought : Bool) (m : Market) → marketHolds m ≡ true → reference bought m .0 ≤ 1000000000
+unfolding reference elsewhereReference
+reference-bound bought m h =
+    let b = market-bounds m h in
+    let met = national-bound bought m b in
     let late = isUnusable m || isMissing (national bought m) && atOrPast bought (m .close .0) (national (not bought) m .0) in
     either small (eqb (m .phase) 0)
-    (either small (isYes (m .elsewhere)) (either small late close met) close)
-    (either small (eqb (m .phase) 1 && isUnusable m) (either small bought offer bid) met)
+    (either small (isYes (m .elsewhere)) (either small late (b .close) met) (b .close))
+    (either small (eqb (m .phase) 1 && isUnusable m) (own-bound bought m b) met)
+
+pub comparison-bound : (bought : Bool) (m : Market) → marketHolds m ≡ true → comparison bought m .0 ≤ 1000000000
+unfolding comparison
+comparison-bound bought m h = let b = market-bounds m h in either small (isUnusable m) (own-bound bought m b) (national-bound bought m b)
+
+pub quote-bounds : (bid offer : Mills) → isBadQuote bid offer ≡ false → (bid .0 ≤ 1000000000) × (offer .0 ≤ 1000000000)
+unfolding isBadQuote
+quote-bounds bid offer h =
+    let k = or-neither _ _ (or-neither (not (within 1 1000000000 (bid .0)) || not (within 1 1000000000 (offer .0))) (not (ltb (bid .0) (offer .0))) h .0) in
+    (most 1 1000000000 (bid .0) (not-false _ (k .0)), most 1 1000000000 (offer .0) (not-false _ (k .1)))

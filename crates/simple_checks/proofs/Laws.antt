@@ -4,11 +4,9 @@ use mathlib.Core.List.{[], _∷_}
 use mathlib.Core.Bool.{Bool, true, false, not, _&&_}
 use Prim.Native.Nat.{ℕ, _+_, _-_, _<_, _≤_}
 use native.Mathlib.Omega.{arith}
-use native.Mathlib.Nat.{mul-le-mul}
 use lib.Dec.{eqb, ltb}
 use borrow.Author.Tests.{ltb-true, ltb-false, lt-ltb, le-ltb}
 use Rattle.rules.specs.declared.Mills.{Mills}
-use Rattle.rules.specs.declared.Ticks.{Ticks}
 use Rattle.rules.specs.declared.Series.{Series}
 use Rattle.rules.specs.declared.Terms.{Terms}
 use Rattle.rules.specs.declared.Leg.{Leg}
@@ -16,7 +14,6 @@ use Rattle.rules.specs.declared.Settings.{Settings}
 use Rattle.rules.specs.declared.Market.{Market}
 use Rattle.rules.specs.Lists.{all, every}
 use Rattle.rules.specs.Order.{isYes}
-use Rattle.rules.specs.Quantities.{distance}
 use Rattle.rules.specs.Checks.{isSkipped, putTest, callTest, simpleBuy, buyBuy, debitCredit, maximumValue}
 use Rattle.rules.specs.Class.{shapeOf}
 use Rattle.rules.specs.Market.{isBeyond, isTooFar, tickDistance}
@@ -56,10 +53,6 @@ pub far-read : (st : Settings) (m : Market) (t : Terms) (u : Leg) {first plain f
     → r ≡ tickDistance st m t (u ∷ [])
 unfolding tickDistance all
 far-read st m t u e f g h = cc (far-grouped (eqb (t .kind) 0) (eqb (t .stop) 0) (eqb (t .manual) 0) (isTooFar st m t u))
-
-pub distance-bound : (ticks : Ticks) (tick : Mills) → ticks .0 ≤ 1000 → tick .0 ≤ 1000 → distance ticks tick .0 ≤ 1000000
-unfolding distance
-distance-bound ticks tick h k = omega (arith, mul-le-mul h k)
 
 -- a buy more than `d` above its reference
 pub beyond-buy : (amount reference d : ℕ) {bought : Bool} → bought ≡ true → ltb (reference + d) amount ≡ isBeyond bought amount reference d

@@ -13,6 +13,8 @@ ghost use Rattle.rules.specs.Demand3.{answerTo};
 ghost use Rattle.rules.specs.Tally.{checkTallied};
 ghost use Rattle.rules.specs.Symbol.{readSymbol, writeSymbol};
 
+pub mod quote;
+
 // Reads an option symbol. The number is the result; the parts are lent.
 #[no_mangle]
 pub extern "C" fn opc_read_symbol(

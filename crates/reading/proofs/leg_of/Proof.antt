@@ -7,7 +7,7 @@ is-symbol-requires : tie.Need-is-symbol-requires
 is-symbol-requires c κs = (search needs, c .before .parts-of .ensures .0)
 
 returns : tie.Need-returns
-returns c = record { leg = leg-read _ _ (c .before .before .before .before .before .before .parts-of .ensures .0); good = c .before .before .before .before .is-symbol .ensures }
+returns c = record { leg = leg-read _ _ _ (c .before .before .before .parts-of .ensures .0) (c .series-of .ensures); good = c .before .is-symbol .ensures }
 
 pub leg-of-spec : {M : Type 1} → statement M
 leg-of-spec =
@@ -17,8 +17,5 @@ leg-of-spec =
     (λ c κs. search needs)
     (λ c. search needs)
     is-symbol-requires
-    (λ c. search needs)
-    (λ c. search needs)
-    (λ c. search needs)
-    (λ c. search needs)
+    (λ c κs. search needs)
     returns)

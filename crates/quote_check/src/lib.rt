@@ -1,0 +1,68 @@
+// The quote check.
+use crate::refusal::read_quote;
+use checks::price::call_test;
+use checks::price::put_test;
+use choice::both;
+use choice::pick;
+use inversion::quote_inversion;
+use rules::Market;
+use rules::Mills;
+use rules::QuoteAnswer;
+use rules::Series;
+use rules::Settings;
+ghost use mathlib.Core.Path.{_≡_};
+ghost use mathlib.Core.Bool.{true};
+ghost use Prim.Native.Nat.{_≤_};
+ghost use Rattle.rules.specs.Market.{settingsHold, marketHolds};
+ghost use Rattle.rules.specs.Quote.{quoteRejection, rejectedQuote, checkQuote};
+
+pub mod refusal;
+
+// The number of the first check that applies, 0 if none. 20 and 21 test the bid.
+pub fn rejection(st: Settings, m: Market, s: Series, bid: Mills, offer: Mills) -> u64
+    requires { ⌜ (settingsHold st ≡ true) × (marketHolds m ≡ true) × (bid .0 ≤ 1000000000) × (offer .0 ≤ 1000000000) ⌝ }
+    ensures { λ r. ⌜ r ≡ quoteRejection st m s bid offer ⌝ }
+{
+    if both(st.check20 != 0, put_test(s, bid)) {
+        return 20;
+    }
+    if both(st.check21 != 0, call_test(st, m, s, bid)) {
+        return 21;
+    }
+    if both(st.check26 != 0, quote_inversion(st, m, bid, offer)) {
+        return 26;
+    }
+    0
+}
+
+// A rejection cancels the resting quote.
+fn rejected_quote(resting: u64, number: u64) -> QuoteAnswer
+    ensures { λ r. ⌜ r ≡ rejectedQuote resting number ⌝ }
+{
+    QuoteAnswer {
+        number: number,
+        cancel: pick(both(resting != 0, number != 0), 1, 0),
+    }
+}
+
+// The quote check on the host's bytes and numbers. A refusal leaves the resting quote alone.
+pub fn check_quote(
+    symbol: &[u8],
+    bid: Mills,
+    offer: Mills,
+    resting: u64,
+    st: Settings,
+    m: Market,
+) -> QuoteAnswer
+    ensures { λ r. ⌜ r ≡ checkQuote st m (now (symbol .entry)) bid offer resting ⌝ }
+{
+    let q = read_quote(symbol, bid, offer, st, m);
+    if q.number != 0 {
+        return QuoteAnswer {
+            number: q.number,
+            cancel: 0,
+        };
+    }
+    let series = q.series;
+    rejected_quote(resting, rejection(st, m, series, bid, offer))
+}
