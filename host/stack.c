@@ -41,17 +41,9 @@ static void call_read(void) { number = opc_read_symbol_parts(buffer, buffer_len,
 static void call_write(void) { opc_write_symbol_parts(&parts, buffer, buffer_len, &number); }
 
 static void call_check(void) {
-    const struct opc_settings *s = &made.settings;
-    const struct opc_market *m = &made.market;
-    answer.number = opc_check_order(
-        made.symbols, made.symbols_len, made.counts, made.counts_len, made.price, made.kind,
-        made.stop, made.manual, made.opening, s->check_20, s->check_21, s->check_22, s->check_23,
-        s->check_24, s->check_25, s->check_26, s->tick_below_3000, s->tick_from_3000,
-        s->net_increment, s->atd_below_1000, s->atd_to_2999, s->atd_to_9999, s->atd_from_10000,
-        s->percentage, s->preset_minimum, s->preset_maximum, s->set_ticks, s->adjusted,
-        s->european_index, m->phase, m->open_elsewhere, m->extended_hours, m->underlying, m->nbb,
-        m->nbo, m->own_bid, m->own_offer, m->previous_close, &answer.class_, &answer.shape,
-        &answer.pairings);
+    answer.number = opc_check_order(EACH_OF_ORDER(&made), EACH_OF_SETTINGS(&made.settings),
+                                    EACH_OF_MARKET(&made.market), &answer.class_, &answer.shape,
+                                    &answer.pairings);
 }
 
 static void on_painted_stack(void (*call)(void)) {
