@@ -264,10 +264,10 @@ static inline void damage_leg_count(struct made_order *m) {
 }
 
 /* A byte that no symbol has at that place. */
-static inline void damage_symbol(struct made_order *m) {
+static inline void damage_symbol(uint8_t symbol[OPC_SYMBOL_LENGTH]) {
     static const char wrong[OPC_SYMBOL_LENGTH + 1] = " --@[/---/:---------,";
     size_t place = below(OPC_SYMBOL_LENGTH);
-    symbol_at(m, below(legs_of(m)))[place] = (uint8_t)wrong[place];
+    symbol[place] = (uint8_t)wrong[place];
 }
 
 static inline void damage_count(struct made_order *m) {
@@ -313,7 +313,7 @@ static inline void damage(struct made_order *m, uint64_t number) {
         damage_leg_count(m);
         break;
     case OPC_BAD_SYMBOL:
-        damage_symbol(m);
+        damage_symbol(symbol_at(m, below(legs_of(m))));
         break;
     case OPC_BAD_COUNT:
         damage_count(m);
