@@ -15,7 +15,6 @@ ghost use Rattle.rules.specs.Pairing.{oneExpiry};
 ghost use Rattle.rules.specs.Order.{legsIn};
 ghost use Rattle.rules.specs.Class.{opposite, isVertical, between, isButterfly, isTrueButterfly, isBox, shapeOf};
 ghost use Rattle.shape.specs.Box.{boxSeries, boxSides};
-pub use strikes::maximum_of;
 
 fn all_four(a: bool, b: bool, c: bool, d: bool) -> bool
     ensures { λ r. ⌜ r ≡ every (a ∷ b ∷ c ∷ d ∷ []) ⌝ }
