@@ -139,37 +139,38 @@ static void check_sizes(const size_t *sizes, size_t len) {
     }
 }
 
-static void check_quote(const struct made_quote *q, const char *kind, uint64_t number) {
+static uint64_t check_quote(const struct made_quote *q, const char *kind) {
     struct opc_quote quote = lend_quote(q);
     struct opc_quote_answer a = opc_answer_quote(&quote, &q->settings, &q->market);
     printf("1 %s\n", kind);
-    expect(a.number == number, kind, 1);
+    return a.number;
+}
+
+static void check_quote_kind(const struct made_quote *q, const char *kind, uint64_t number) {
+    expect(check_quote(q, kind) == number, kind, 1);
 }
 
 /* A quote of 1.19 to 1.21 dollars: within the set ticks where the own prices are compared. */
 static void check_quotes(void) {
     struct made_quote q = quote_for("XYZ   270115C00020000", 1190, 1210);
     q.market = quoted;
-    check_quote(&q, "typical", OPC_ACCEPTED);
+    check_quote_kind(&q, "typical", OPC_ACCEPTED);
     q.market.own_offer = q.market.nbo;
-    check_quote(&q, "own prices at the national best", OPC_ACCEPTED);
+    check_quote_kind(&q, "own prices at the national best", OPC_ACCEPTED);
     q.market.nbb = q.market.nbo = 0;
-    check_quote(&q, "own prices only", OPC_ACCEPTED);
+    check_quote_kind(&q, "own prices only", OPC_ACCEPTED);
     q.market.nbb = q.market.nbo = 1200;
-    check_quote(&q, "national best locked", OPC_ACCEPTED);
+    check_quote_kind(&q, "national best locked", OPC_ACCEPTED);
     q.bid = 40000;
     q.offer = 40001;
-    check_quote(&q, "call check", OPC_CHECK_CALL);
+    check_quote_kind(&q, "call check", OPC_CHECK_CALL);
     q.symbol[12] = 'P';
-    check_quote(&q, "put check", OPC_CHECK_PUT);
+    check_quote_kind(&q, "put check", OPC_CHECK_PUT);
     for (size_t i = 0; i < RANDOM_INPUTS; i++) {
         struct opc_settings settings = OPC_EXAMPLE_SETTINGS;
         q = random_quote();
         q.settings = settings;
-        struct opc_quote quote = lend_quote(&q);
-        uint64_t number = opc_answer_quote(&quote, &q.settings, &q.market).number;
-        printf("1 random\n");
-        expect(is_valid(number), "random", 1);
+        expect(is_valid(check_quote(&q, "random")), "random", 1);
     }
 }
 
