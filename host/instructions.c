@@ -1,16 +1,21 @@
 /*
- * Calls the order check once for each of many valid orders of 1, 2, 4, 8 and 16 legs, all checks
- * switched on, and prints a line for each call: legs and kind of order. host/measure runs it under
+ * Calls the entry that its argument names once for each of many valid inputs, all checks switched
+ * on, and prints a line for each call: legs and kind of order or quote. The order check gets orders
+ * of 1, 2, 4, 8 and 16 legs, the tallied check those of 1 and 16 legs. host/measure runs this under
  * callgrind, which counts the instructions of each call.
  */
 #include "made_orders.h"
+#include "made_quotes.h"
 #include "option_price_check.h"
 
 #include <stdlib.h>
 
-#define RANDOM_ORDERS 40
+#define RANDOM_INPUTS 40
 
-/* A market in which check 25 has a reference and check 21 an underlying. */
+/* Which of the two order checks is called. */
+static bool tallied;
+
+/* A market in which checks 25 and 26 have a reference and check 21 an underlying. */
 static const struct opc_market quoted = {.phase = OPC_PHASE_OPEN,
                                          .underlying = 40000,
                                          .nbb = 1180,
@@ -80,7 +85,10 @@ static void reverse_legs(struct made_order *m) {
 
 static uint64_t check(const struct made_order *m, const char *kind, const char *sequence) {
     struct opc_order order = lend(m);
-    struct opc_answer a = opc_answer_order(&order, &m->settings, &m->market);
+    struct opc_tally tally = OPC_FRESH_TALLY;
+    struct opc_answer a = tallied
+                              ? opc_answer_order_tallied(&order, &m->settings, &m->market, &tally)
+                              : opc_answer_order(&order, &m->settings, &m->market);
     printf("%zu %s%s\n", legs_of(m), kind, sequence);
     return a.number;
 }
@@ -110,7 +118,7 @@ static void check_kind(void (*add_legs)(struct made_order *, size_t), const char
 }
 
 static void check_random(size_t legs) {
-    for (size_t i = 0; i < RANDOM_ORDERS; i++) {
+    for (size_t i = 0; i < RANDOM_INPUTS; i++) {
         struct made_order m = random_order(legs);
         struct opc_settings settings = OPC_EXAMPLE_SETTINGS;
         m.settings = settings;
@@ -119,9 +127,8 @@ static void check_random(size_t legs) {
     }
 }
 
-int main(void) {
-    static const size_t sizes[] = {1, 2, 4, 8, 16};
-    for (size_t i = 0; i < MADE_COUNT(sizes); i++) {
+static void check_sizes(const size_t *sizes, size_t len) {
+    for (size_t i = 0; i < len; i++) {
         check_kind(typical, "typical", sizes[i]);
         check_kind(strikes, "one expiry", sizes[i]);
         check_kind(expiries, "one strike", sizes[i]);
@@ -129,6 +136,57 @@ int main(void) {
         check_kind(one_against_all, "one against all", sizes[i]);
         check_kind(fibonacci, "Fibonacci counts", sizes[i]);
         check_random(sizes[i]);
+    }
+}
+
+static uint64_t check_quote(const struct made_quote *q, const char *kind) {
+    struct opc_quote quote = lend_quote(q);
+    struct opc_quote_answer a = opc_answer_quote(&quote, &q->settings, &q->market);
+    printf("1 %s\n", kind);
+    return a.number;
+}
+
+static void check_quote_kind(const struct made_quote *q, const char *kind, uint64_t number) {
+    expect(check_quote(q, kind) == number, kind, 1);
+}
+
+/* A quote of 1.19 to 1.21 dollars: within the set ticks where the own prices are compared. */
+static void check_quotes(void) {
+    struct made_quote q = quote_for("XYZ   270115C00020000", 1190, 1210);
+    q.market = quoted;
+    check_quote_kind(&q, "typical", OPC_ACCEPTED);
+    q.market.own_offer = q.market.nbo;
+    check_quote_kind(&q, "own prices at the national best", OPC_ACCEPTED);
+    q.market.nbb = q.market.nbo = 0;
+    check_quote_kind(&q, "own prices only", OPC_ACCEPTED);
+    q.market.nbb = q.market.nbo = 1200;
+    check_quote_kind(&q, "national best locked", OPC_ACCEPTED);
+    q.bid = 40000;
+    q.offer = 40001;
+    check_quote_kind(&q, "call check", OPC_CHECK_CALL);
+    q.symbol[12] = 'P';
+    check_quote_kind(&q, "put check", OPC_CHECK_PUT);
+    for (size_t i = 0; i < RANDOM_INPUTS; i++) {
+        struct opc_settings settings = OPC_EXAMPLE_SETTINGS;
+        q = random_quote();
+        q.settings = settings;
+        expect(is_valid(check_quote(&q, "random")), "random", 1);
+    }
+}
+
+int main(int argc, char **argv) {
+    static const size_t all[] = {1, 2, 4, 8, 16}, least_and_most[] = {1, 16};
+    const char *entry = argc == 2 ? argv[1] : "";
+    if (strcmp(entry, "opc_check_order") == 0) {
+        check_sizes(all, MADE_COUNT(all));
+    } else if (strcmp(entry, "opc_check_order_tallied") == 0) {
+        tallied = true;
+        check_sizes(least_and_most, MADE_COUNT(least_and_most));
+    } else if (strcmp(entry, "opc_check_quote") == 0) {
+        check_quotes();
+    } else {
+        fprintf(stderr, "instructions: the argument names no entry that is measured\n");
+        return 2;
     }
     return 0;
 }

@@ -28,6 +28,20 @@ struct made_order {
     struct opc_market market;
 };
 
+/* Each field by itself, as the entries take them. */
+#define EACH_OF_ORDER(o)                                                                           \
+    (o)->symbols, (o)->symbols_len, (o)->counts, (o)->counts_len, (o)->price, (o)->kind,           \
+        (o)->stop, (o)->manual, (o)->opening
+#define EACH_OF_SETTINGS(s)                                                                        \
+    (s)->check_20, (s)->check_21, (s)->check_22, (s)->check_23, (s)->check_24, (s)->check_25,      \
+        (s)->check_26, (s)->tick_below_3000, (s)->tick_from_3000, (s)->net_increment,              \
+        (s)->atd_below_1000, (s)->atd_to_2999, (s)->atd_to_9999, (s)->atd_from_10000,              \
+        (s)->percentage, (s)->preset_minimum, (s)->preset_maximum, (s)->set_ticks, (s)->adjusted,  \
+        (s)->european_index
+#define EACH_OF_MARKET(m)                                                                          \
+    (m)->phase, (m)->open_elsewhere, (m)->extended_hours, (m)->underlying, (m)->nbb, (m)->nbo,     \
+        (m)->own_bid, (m)->own_offer, (m)->previous_close
+
 /* A splitmix64 generator from a fixed seed: every run makes the same orders. */
 static inline uint64_t next_random(void) {
     static uint64_t state = 20151117;
@@ -250,10 +264,10 @@ static inline void damage_leg_count(struct made_order *m) {
 }
 
 /* A byte that no symbol has at that place. */
-static inline void damage_symbol(struct made_order *m) {
+static inline void damage_symbol(uint8_t symbol[OPC_SYMBOL_LENGTH]) {
     static const char wrong[OPC_SYMBOL_LENGTH + 1] = " --@[/---/:---------,";
     size_t place = below(OPC_SYMBOL_LENGTH);
-    symbol_at(m, below(legs_of(m)))[place] = (uint8_t)wrong[place];
+    symbol[place] = (uint8_t)wrong[place];
 }
 
 static inline void damage_count(struct made_order *m) {
@@ -299,7 +313,7 @@ static inline void damage(struct made_order *m, uint64_t number) {
         damage_leg_count(m);
         break;
     case OPC_BAD_SYMBOL:
-        damage_symbol(m);
+        damage_symbol(symbol_at(m, below(legs_of(m))));
         break;
     case OPC_BAD_COUNT:
         damage_count(m);

@@ -1,6 +1,7 @@
 /*
  * Checks the orders of document 01's examples, T1 to T12, through the proved library, and prints
- * what it answers. Exit status 1 if an answer is another than expected.
+ * what it answers; then counts some of them in tallies. Exit status 1 if an answer or a tally is
+ * another than expected.
  */
 #include "option_price_check.h"
 
@@ -105,6 +106,36 @@ static const struct order_case cases[] = {
     {"T12", LEGS(t12), 1251, &nbo_1_20, {25, OPC_CLASS_DEBIT, OPC_SHAPE_OTHER, 0}},
 };
 
+/* A check that is counted, and the tally after it. */
+struct tallied_case {
+    const char *name;
+    const struct leg *legs;
+    size_t len;
+    int64_t price;
+    uint64_t number;
+    struct opc_tally after;
+};
+
+/* Of a tally: seen, refused, accepted, rejected. */
+static const struct tallied_case session[] = {
+    {"T6", LEGS(t6), -24000, 0, {1, 0, 1, 0}},      {"T6", LEGS(t6), -28000, 24, {2, 0, 1, 1}},
+    {"T7", LEGS(t7), -19, 22, {3, 0, 1, 2}},        {"no leg", NULL, 0, 1000, 3, {4, 1, 1, 2}},
+    {"price 0", LEGS(t11_put), 0, 8, {5, 2, 1, 2}}, {"T8", LEGS(t8), -1000, 0, {6, 2, 2, 2}},
+};
+
+/* The last check that a tally counts, and one after it. */
+static const struct opc_tally nearly_full = {999999, 199999, 600000, 200000};
+static const struct tallied_case last_checks[] = {
+    {"T6", LEGS(t6), -24000, 0, {1000000, 199999, 600001, 200000}},
+    {"T6", LEGS(t6), -24000, 12, {1000000, 199999, 600001, 200000}},
+};
+
+/* Three checks seen, but only two that are refused, accepted or rejected. */
+static const struct opc_tally not_a_sum = {3, 0, 1, 1};
+static const struct tallied_case not_counted[] = {
+    {"T6", LEGS(t6), -24000, 12, {3, 0, 1, 1}},
+};
+
 static const char *meaning(uint64_t number) {
     switch (number) {
     case OPC_ACCEPTED:
@@ -127,6 +158,8 @@ static const char *meaning(uint64_t number) {
         return "setting";
     case OPC_BAD_MARKET:
         return "market value";
+    case OPC_BAD_TALLY:
+        return "tally";
     case OPC_CHECK_PUT:
         return "put check";
     case OPC_CHECK_CALL:
@@ -183,20 +216,33 @@ static void write_leg(const struct leg *leg, uint8_t *symbol, uint8_t *count) {
     opc_write_count(leg->count, count);
 }
 
-static struct opc_answer answer_to(const struct order_case *c) {
+/* The bytes of an order's legs. */
+struct leg_bytes {
     uint8_t symbols[MOST_LEGS * OPC_SYMBOL_LENGTH];
     uint8_t counts[MOST_LEGS * OPC_COUNT_LENGTH];
-    for (size_t i = 0; i < c->len; i++) {
-        write_leg(&c->legs[i], symbols + i * OPC_SYMBOL_LENGTH, counts + i * OPC_COUNT_LENGTH);
+};
+
+/* A limit order; it points into the bytes. */
+static struct opc_order limit_order(struct leg_bytes *bytes, const struct leg *legs, size_t len,
+                                    int64_t price) {
+    for (size_t i = 0; i < len; i++) {
+        write_leg(&legs[i], bytes->symbols + i * OPC_SYMBOL_LENGTH,
+                  bytes->counts + i * OPC_COUNT_LENGTH);
     }
     struct opc_order order = {
-        .symbols = symbols,
-        .symbols_len = c->len * OPC_SYMBOL_LENGTH,
-        .counts = counts,
-        .counts_len = c->len * OPC_COUNT_LENGTH,
-        .price = c->price,
+        .symbols = bytes->symbols,
+        .symbols_len = len * OPC_SYMBOL_LENGTH,
+        .counts = bytes->counts,
+        .counts_len = len * OPC_COUNT_LENGTH,
+        .price = price,
         .kind = OPC_KIND_LIMIT,
     };
+    return order;
+}
+
+static struct opc_answer answer_to(const struct order_case *c) {
+    struct leg_bytes bytes;
+    struct opc_order order = limit_order(&bytes, c->legs, c->len, c->price);
     struct opc_settings settings = OPC_EXAMPLE_SETTINGS;
     struct opc_market market = OPC_EMPTY_MARKET;
     settings.european_index = c->given->european_index;
@@ -205,9 +251,9 @@ static struct opc_answer answer_to(const struct order_case *c) {
     return opc_answer_order(&order, &settings, &market);
 }
 
-static void print_legs(const struct order_case *c, int width) {
-    for (size_t i = 0; i < c->len; i++) {
-        const struct leg *leg = &c->legs[i];
+static void print_legs(const struct leg *legs, size_t len, int width) {
+    for (size_t i = 0; i < len; i++) {
+        const struct leg *leg = &legs[i];
         width -= printf("%s%+" PRId64 " %s %" PRIu64 "%c", i == 0 ? "" : "  ", leg->count,
                         expiries[leg->expiry].name, leg->dollars, leg->option_type);
     }
@@ -231,7 +277,7 @@ static bool show(const struct order_case *c) {
     struct opc_answer a = answer_to(c);
     bool expected = same(&a, &c->expected);
     printf("%-4s  %-14s  ", c->name, c->given->words);
-    print_legs(c, 46);
+    print_legs(c->legs, c->len, 46);
     print_price(c->price, 9);
     printf("  %2" PRIu64 " %-17s", a.number, meaning(a.number));
     printf("  %" PRIu64 " %-12s", a.class_, class_name(a.class_));
@@ -241,7 +287,46 @@ static bool show(const struct order_case *c) {
     return expected;
 }
 
+static bool same_tally(const struct opc_tally *a, const struct opc_tally *b) {
+    return a->seen == b->seen && a->refused == b->refused && a->accepted == b->accepted &&
+           a->rejected == b->rejected;
+}
+
+static void print_tally(const struct opc_tally *t) {
+    printf("  %7" PRIu64 "  %7" PRIu64 "  %8" PRIu64 "  %8" PRIu64, t->seen, t->refused,
+           t->accepted, t->rejected);
+}
+
+/* Checks an order with the tally that the check before left. */
+static bool show_tallied(const struct tallied_case *c, struct opc_tally *tally) {
+    const struct opc_settings settings = OPC_EXAMPLE_SETTINGS;
+    const struct opc_market market = OPC_EMPTY_MARKET;
+    struct leg_bytes bytes;
+    struct opc_order order = limit_order(&bytes, c->legs, c->len, c->price);
+    struct opc_answer a = opc_answer_order_tallied(&order, &settings, &market, tally);
+    bool expected = a.number == c->number && same_tally(tally, &c->after);
+    printf("%-7s  ", c->name);
+    print_legs(c->legs, c->len, 46);
+    print_price(c->price, 9);
+    printf("  %2" PRIu64 " %-17s", a.number, meaning(a.number));
+    print_tally(tally);
+    printf("%s\n", expected ? "" : "  NOT AS EXPECTED");
+    return expected;
+}
+
+static bool show_session(struct opc_tally tally, const struct tallied_case *checks, size_t len) {
+    bool expected = true;
+    printf("%-7s  %-55s  %-20s", "before", "", "");
+    print_tally(&tally);
+    printf("\n");
+    for (size_t i = 0; i < len; i++) {
+        expected = show_tallied(&checks[i], &tally) && expected;
+    }
+    return expected;
+}
+
 int main(void) {
+    const struct opc_tally fresh = OPC_FRESH_TALLY;
     bool expected = true;
     printf("Orders (root XYZ, third Fridays of 2027, strikes and prices in dollars)\n");
     printf("%-4s  %-14s  %-46s%9s  %-20s  %-14s  %-18s  %s\n", "case", "given", "legs", "price",
@@ -249,5 +334,11 @@ int main(void) {
     for (size_t i = 0; i < COUNT(cases); i++) {
         expected = show(&cases[i]) && expected;
     }
+    printf("\nTallies (a fresh one, one that is nearly full, one that does not add up)\n");
+    printf("%-7s  %-46s%9s  %-20s  %7s  %7s  %8s  %8s\n", "case", "legs", "price", "number", "seen",
+           "refused", "accepted", "rejected");
+    expected = show_session(fresh, session, COUNT(session)) && expected;
+    expected = show_session(nearly_full, last_checks, COUNT(last_checks)) && expected;
+    expected = show_session(not_a_sum, not_counted, COUNT(not_counted)) && expected;
     return expected ? EXIT_SUCCESS : EXIT_FAILURE;
 }

@@ -8,6 +8,7 @@
  */
 #define _XOPEN_SOURCE 700
 #include "made_orders.h"
+#include "made_quotes.h"
 #include "option_price_check.h"
 
 #include <stdlib.h>
@@ -29,6 +30,9 @@ static uint8_t buffer[64];
 static size_t buffer_len;
 static uint64_t number;
 static struct opc_answer answer;
+static struct opc_tally tally;
+static struct made_quote made_quote;
+static struct opc_quote_answer quote_answer;
 
 /* Calls through a pointer that the compiler does not know: no entry is optimized away. */
 static void do_nothing(void) {}
@@ -41,17 +45,22 @@ static void call_read(void) { number = opc_read_symbol_parts(buffer, buffer_len,
 static void call_write(void) { opc_write_symbol_parts(&parts, buffer, buffer_len, &number); }
 
 static void call_check(void) {
-    const struct opc_settings *s = &made.settings;
-    const struct opc_market *m = &made.market;
-    answer.number = opc_check_order(
-        made.symbols, made.symbols_len, made.counts, made.counts_len, made.price, made.kind,
-        made.stop, made.manual, made.opening, s->check_20, s->check_21, s->check_22, s->check_23,
-        s->check_24, s->check_25, s->check_26, s->tick_below_3000, s->tick_from_3000,
-        s->net_increment, s->atd_below_1000, s->atd_to_2999, s->atd_to_9999, s->atd_from_10000,
-        s->percentage, s->preset_minimum, s->preset_maximum, s->set_ticks, s->adjusted,
-        s->european_index, m->phase, m->open_elsewhere, m->extended_hours, m->underlying, m->nbb,
-        m->nbo, m->own_bid, m->own_offer, m->previous_close, &answer.class_, &answer.shape,
-        &answer.pairings);
+    answer.number = opc_check_order(EACH_OF_ORDER(&made), EACH_OF_SETTINGS(&made.settings),
+                                    EACH_OF_MARKET(&made.market), &answer.class_, &answer.shape,
+                                    &answer.pairings);
+}
+
+static void call_check_tallied(void) {
+    answer.number = opc_check_order_tallied(EACH_OF_ORDER(&made), EACH_OF_SETTINGS(&made.settings),
+                                            EACH_OF_MARKET(&made.market), &answer.class_,
+                                            &answer.shape, &answer.pairings, &tally.seen,
+                                            &tally.refused, &tally.accepted, &tally.rejected);
+}
+
+static void call_check_quote(void) {
+    quote_answer.number =
+        opc_check_quote(EACH_OF_QUOTE(&made_quote), EACH_OF_SETTINGS(&made_quote.settings),
+                        EACH_OF_MARKET(&made_quote.market), &quote_answer.cancel);
 }
 
 static void on_painted_stack(void (*call)(void)) {
@@ -116,12 +125,12 @@ static size_t write_inputs(void) {
 }
 
 /* Valid orders of each number of legs, then each kind of damage, alone and upon another. */
-static size_t check_inputs(void) {
+static size_t order_inputs(void (*call)(void)) {
     size_t inputs = 0;
     for (size_t legs = 1; legs <= OPC_MOST_LEGS; legs++) {
         for (size_t i = 0; i < INPUTS_PER_KIND; i++, inputs++) {
             made = random_order(legs);
-            on_painted_stack(call_check);
+            call();
         }
     }
     for (size_t kind = 0; kind < REFUSALS; kind++) {
@@ -131,7 +140,45 @@ static size_t check_inputs(void) {
                 damage(&made, refusals[between(kind, REFUSALS - 1)]);
             }
             damage(&made, refusals[kind]);
-            on_painted_stack(call_check);
+            call();
+        }
+    }
+    return inputs;
+}
+
+static void check_made(void) { on_painted_stack(call_check); }
+
+static size_t check_inputs(void) { return order_inputs(check_made); }
+
+/* With a tally that counts, and now and then with one that does not. */
+static void check_made_tallied(void) {
+    tally.refused = below(333334);
+    tally.accepted = below(333334);
+    tally.rejected = below(333334);
+    tally.seen = tally.refused + tally.accepted + tally.rejected;
+    if (one_in(8)) {
+        tally.seen = next_random() >> below(64);
+    }
+    on_painted_stack(call_check_tallied);
+}
+
+static size_t tallied_inputs(void) { return order_inputs(check_made_tallied); }
+
+/* Valid quotes, then each kind of damage, alone and upon another. */
+static size_t quote_inputs(void) {
+    size_t inputs = 0;
+    for (; inputs < INPUTS_PER_KIND; inputs++) {
+        made_quote = random_quote();
+        on_painted_stack(call_check_quote);
+    }
+    for (size_t kind = 0; kind < QUOTE_REFUSALS; kind++) {
+        for (size_t i = 0; i < INPUTS_PER_KIND; i++, inputs++) {
+            made_quote = random_quote();
+            if (one_in(4)) {
+                damage_quote(&made_quote, quote_refusals[between(kind, QUOTE_REFUSALS - 1)]);
+            }
+            damage_quote(&made_quote, quote_refusals[kind]);
+            on_painted_stack(call_check_quote);
         }
     }
     return inputs;
@@ -142,9 +189,9 @@ int main(void) {
         const char *name;
         size_t (*run)(void);
     } entries[] = {
-        {"opc_read_symbol", read_inputs},
-        {"opc_write_symbol", write_inputs},
-        {"opc_check_order", check_inputs},
+        {"opc_read_symbol", read_inputs},  {"opc_write_symbol", write_inputs},
+        {"opc_check_order", check_inputs}, {"opc_check_order_tallied", tallied_inputs},
+        {"opc_check_quote", quote_inputs},
     };
     bool within = true;
     paint_stack();

@@ -2,21 +2,14 @@
  * Holds the order check to exact answers, and its inline wrapper to the raw entry. Exit status 1
  * and a message on the first failure, one line with the number of checks otherwise.
  */
-#define _DEFAULT_SOURCE /* for mmap and its anonymous pages */
+#define _DEFAULT_SOURCE /* for lent_bytes.h */
+#include "lent_bytes.h"
 #include "made_orders.h"
 #include "option_price_check.h"
 
 #include <stdlib.h>
-#include <sys/mman.h>
-#include <unistd.h>
 
 #define RANDOM_CASES 100000
-/*
- * The library's own code is not instrumented. So lent bytes end where a page begins that may not be
- * touched: a read or a write past them ends the test. Bytes before them show a stray write.
- */
-#define GUARD 16
-#define LARGEST (GUARD + MADE_LEGS * OPC_SYMBOL_LENGTH)
 
 /* The order tried last, for the message of a failure. */
 static struct made_order now;
@@ -31,17 +24,8 @@ static void print_numbers(const char *what, const uint64_t *numbers, size_t len)
 }
 
 static _Noreturn void fail(const char *what) {
-    const struct opc_settings *s = &now.settings;
-    const struct opc_market *m = &now.market;
-    const uint64_t settings[] = {
-        s->check_20,       s->check_21,       s->check_22,       s->check_23,
-        s->check_24,       s->check_25,       s->check_26,       s->tick_below_3000,
-        s->tick_from_3000, s->net_increment,  s->atd_below_1000, s->atd_to_2999,
-        s->atd_to_9999,    s->atd_from_10000, s->percentage,     s->preset_minimum,
-        s->preset_maximum, s->set_ticks,      s->adjusted,       s->european_index};
-    const uint64_t market[] = {
-        m->phase, m->open_elsewhere, m->extended_hours, m->underlying,    m->nbb,
-        m->nbo,   m->own_bid,        m->own_offer,      m->previous_close};
+    const uint64_t settings[] = {EACH_OF_SETTINGS(&now.settings)};
+    const uint64_t market[] = {EACH_OF_MARKET(&now.market)};
     const uint64_t flags[] = {now.kind, now.stop, now.manual, now.opening};
     fprintf(stderr, "test_orders: %s, at check %" PRIu64 "\n", what, checks);
     fprintf(stderr, "  symbols: %.*s\n  counts:", (int)now.symbols_len, (const char *)now.symbols);
@@ -70,14 +54,8 @@ static bool same(const struct opc_answer *a, const struct opc_answer *b) {
 static struct opc_answer raw_answer(const struct opc_order *o, const struct opc_settings *s,
                                     const struct opc_market *m, uint64_t garbage) {
     struct opc_answer a = {garbage, garbage, garbage, garbage};
-    a.number = opc_check_order(
-        o->symbols, o->symbols_len, o->counts, o->counts_len, o->price, o->kind, o->stop, o->manual,
-        o->opening, s->check_20, s->check_21, s->check_22, s->check_23, s->check_24, s->check_25,
-        s->check_26, s->tick_below_3000, s->tick_from_3000, s->net_increment, s->atd_below_1000,
-        s->atd_to_2999, s->atd_to_9999, s->atd_from_10000, s->percentage, s->preset_minimum,
-        s->preset_maximum, s->set_ticks, s->adjusted, s->european_index, m->phase,
-        m->open_elsewhere, m->extended_hours, m->underlying, m->nbb, m->nbo, m->own_bid,
-        m->own_offer, m->previous_close, &a.class_, &a.shape, &a.pairings);
+    a.number = opc_check_order(EACH_OF_ORDER(o), EACH_OF_SETTINGS(s), EACH_OF_MARKET(m), &a.class_,
+                               &a.shape, &a.pairings);
     return a;
 }
 
@@ -102,40 +80,6 @@ static void expect_limits(const struct opc_answer *a, size_t legs) {
     if (legs == 1) {
         expect(a->class_ != OPC_CLASS_UNDETERMINED && a->shape == 0, "class or shape of one leg");
     }
-}
-
-/* The first byte of a page that may not be touched, after one that may. */
-static uint8_t *forbidden_page(void) {
-    size_t page = (size_t)sysconf(_SC_PAGESIZE);
-    int private_memory = MAP_PRIVATE | MAP_ANONYMOUS;
-    uint8_t *pages = mmap(NULL, 2 * page, PROT_READ | PROT_WRITE, private_memory, -1, 0);
-    if (pages == MAP_FAILED || mprotect(pages + page, page, PROT_NONE) != 0) {
-        perror("test_orders: a forbidden page");
-        exit(2);
-    }
-    return pages + page;
-}
-
-/* Bytes lent up to a forbidden page, with a copy of them and of the guard before them. */
-struct lent_bytes {
-    uint8_t *end;
-    size_t len;
-    uint8_t before[LARGEST];
-};
-
-static const uint8_t *lend_bytes(struct lent_bytes *lent, const uint8_t *bytes, size_t len) {
-    if (lent->end == NULL) {
-        lent->end = forbidden_page();
-    }
-    lent->len = len;
-    memset(lent->before, (int)below(256), GUARD);
-    memcpy(lent->before + GUARD, bytes, len);
-    memcpy(lent->end - len - GUARD, lent->before, GUARD + len);
-    return lent->end - len;
-}
-
-static bool are_kept(const struct lent_bytes *lent) {
-    return memcmp(lent->end - lent->len - GUARD, lent->before, GUARD + lent->len) == 0;
 }
 
 /*

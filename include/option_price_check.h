@@ -6,7 +6,7 @@
  *
  * What an entry promises: it takes any values and relies on no earlier test by its caller; it gives
  * one of the numbers of enum opc_number; it sets every lent number (every uint64_t pointer) on
- * every call, whatever was there before.
+ * every call, whatever was there before. A tally's four lent numbers alone are read too.
  *
  * What an entry asks of its caller: a pointer to bytes is valid for the length beside it, and is
  * NULL only with length 0; a pointer to a lent number is valid and never NULL; the lent numbers of
@@ -23,8 +23,8 @@ extern "C" {
 #endif
 
 /*
- * The numbers that an entry can give. The words in front say whose doing a refusal is; 20 to 25 are
- * the exchange's own checks of an order that is not refused.
+ * The numbers that an entry can give. The words in front say whose doing a refusal is; 20 to 26 are
+ * the exchange's own checks of an order or a quote that is not refused.
  */
 enum opc_number {
     /* Not refused, and not rejected by a check. */
@@ -49,6 +49,10 @@ enum opc_number {
     OPC_BAD_SETTING = 9,
     /* The feed: the phase or a market value is outside its limits. */
     OPC_BAD_MARKET = 10,
+    /* The trading firm: a quote's bid or offer is outside its limits, or the bid is not below. */
+    OPC_BAD_QUOTE = 11,
+    /* The host: the tally has counted its last check, or its numbers do not add up. */
+    OPC_BAD_TALLY = 12,
     /* Rejected by the put check. */
     OPC_CHECK_PUT = 20,
     /* Rejected by the call check. */
@@ -60,7 +64,9 @@ enum opc_number {
     /* Rejected by the maximum value check. */
     OPC_CHECK_MAXIMUM_VALUE = 24,
     /* Rejected by the tick distance check. */
-    OPC_CHECK_TICK_DISTANCE = 25
+    OPC_CHECK_TICK_DISTANCE = 25,
+    /* A quote, rejected by the quote inversion check. */
+    OPC_CHECK_QUOTE_INVERSION = 26
 };
 
 /*
@@ -210,8 +216,9 @@ struct opc_settings {
     }
 
 /*
- * The market in the order's class, and for an order of one leg in its series. Each price is in
- * mills, 1 to 1000000000, and 0 where it is missing. A flag: 0 is no, any other value yes.
+ * The market in the class of options, and in the series of a quote or of an order of one leg. Each
+ * price is in mills, 1 to 1000000000, and 0 where it is missing. A flag: 0 is no, any other value
+ * yes.
  */
 struct opc_market {
     uint64_t phase;          /* as in enum opc_phase; no other value */
@@ -311,6 +318,155 @@ static inline struct opc_answer opc_answer_order(const struct opc_order *order,
         s->adjusted, s->european_index, m->phase, m->open_elsewhere, m->extended_hours,
         m->underlying, m->nbb, m->nbo, m->own_bid, m->own_offer, m->previous_close, &answer.class_,
         &answer.shape, &answer.pairings);
+    return answer;
+}
+
+/* The most checks that one tally counts. */
+#define OPC_MOST_TALLIED 1000000
+
+/*
+ * The checks of a session, counted: each one seen is refused, accepted or rejected. The host keeps
+ * the tally and lends it to each check; it begins fresh, with four zeros.
+ */
+struct opc_tally {
+    uint64_t seen;     /* at most OPC_MOST_TALLIED, and always the sum of the other three */
+    uint64_t refused;  /* given any other number; a check given 12 is not seen at all */
+    uint64_t accepted; /* given 0 */
+    uint64_t rejected; /* given 20 to 26 */
+};
+
+/* In C++ such an initializer needs C++20. */
+#define OPC_FRESH_TALLY                                                                            \
+    { .seen = 0, .refused = 0, .accepted = 0, .rejected = 0 }
+
+/*
+ * Checks an order as opc_check_order does, and counts it in a tally, whose four numbers are lent
+ * both ways.
+ *
+ * Returns the first of these that applies:
+ *   OPC_BAD_TALLY  *seen is 1000000 or more, or is not *refused, *accepted and *rejected together
+ *                  (their true sum, which may be above any uint64_t), whatever the order;
+ *   otherwise      the number that opc_check_order gives.
+ *
+ * After OPC_BAD_TALLY, *class_, *shape and *pairings are 0, and the tally is as it was. Otherwise
+ * they are as opc_check_order sets them; *seen is one more than it was, and so is *accepted (after
+ * 0), *rejected (after 20 to 26) or *refused (after any other number).
+ */
+uint64_t opc_check_order_tallied(
+    const uint8_t *symbols, size_t symbols_len, const uint8_t *counts, size_t counts_len,
+    int64_t price, uint64_t kind, uint64_t stop, uint64_t manual, uint64_t opening,
+    /* settings */
+    uint64_t check_20, uint64_t check_21, uint64_t check_22, uint64_t check_23, uint64_t check_24,
+    uint64_t check_25, uint64_t check_26, uint64_t tick_below_3000, uint64_t tick_from_3000,
+    uint64_t net_increment, uint64_t atd_below_1000, uint64_t atd_to_2999, uint64_t atd_to_9999,
+    uint64_t atd_from_10000, uint64_t percentage, uint64_t preset_minimum, uint64_t preset_maximum,
+    uint64_t set_ticks, uint64_t adjusted, uint64_t european_index,
+    /* market */
+    uint64_t phase, uint64_t open_elsewhere, uint64_t extended_hours, uint64_t underlying,
+    uint64_t nbb, uint64_t nbo, uint64_t own_bid, uint64_t own_offer, uint64_t previous_close,
+    /* answer */
+    uint64_t *class_, uint64_t *shape, uint64_t *pairings,
+    /* tally */
+    uint64_t *seen, uint64_t *refused, uint64_t *accepted, uint64_t *rejected);
+
+/* opc_check_order_tallied, with order, settings, market, tally and answer in structs. */
+static inline struct opc_answer opc_answer_order_tallied(const struct opc_order *order,
+                                                         const struct opc_settings *settings,
+                                                         const struct opc_market *market,
+                                                         struct opc_tally *tally) {
+    const struct opc_settings *s = settings;
+    const struct opc_market *m = market;
+    struct opc_answer answer;
+    answer.number = opc_check_order_tallied(
+        order->symbols, order->symbols_len, order->counts, order->counts_len, order->price,
+        order->kind, order->stop, order->manual, order->opening, s->check_20, s->check_21,
+        s->check_22, s->check_23, s->check_24, s->check_25, s->check_26, s->tick_below_3000,
+        s->tick_from_3000, s->net_increment, s->atd_below_1000, s->atd_to_2999, s->atd_to_9999,
+        s->atd_from_10000, s->percentage, s->preset_minimum, s->preset_maximum, s->set_ticks,
+        s->adjusted, s->european_index, m->phase, m->open_elsewhere, m->extended_hours,
+        m->underlying, m->nbb, m->nbo, m->own_bid, m->own_offer, m->previous_close, &answer.class_,
+        &answer.shape, &answer.pairings, &tally->seen, &tally->refused, &tally->accepted,
+        &tally->rejected);
+    return answer;
+}
+
+/* A quote: one series, a bid and an offer, each in mills, 1 to 1000000000, the bid below. */
+struct opc_quote {
+    const uint8_t *symbol; /* 21 bytes */
+    size_t symbol_len;
+    uint64_t bid;
+    uint64_t offer;
+    uint64_t resting; /* flag: a quote is resting already; 0 is no, any other value yes */
+};
+
+/* The answer to a quote. */
+struct opc_quote_answer {
+    uint64_t number; /* as in enum opc_number */
+    uint64_t cancel; /* 1 if the resting quote is to be cancelled, else 0 */
+};
+
+/*
+ * Checks a quote against the settings and the market. The fields, with their limits and units, are
+ * those of struct opc_quote, opc_settings and opc_market, in the same sequence.
+ *
+ * Returns the first of these that applies:
+ *   the quote is refused, by the doing of the host,
+ *     OPC_NOT_21_BYTES           symbol_len is not 21;
+ *   of the trading firm,
+ *     OPC_BAD_SYMBOL             the symbol is outside the layout;
+ *   of the exchange's settings,
+ *     OPC_BAD_SETTING            one is outside its limits, used or not, switched on or off;
+ *   of the feed,
+ *     OPC_BAD_MARKET             the phase or a value is outside its limits, used or not;
+ *   of the trading firm,
+ *     OPC_BAD_QUOTE              bid or offer is not 1 to 1000000000, or the bid is not below the
+ *                                offer;
+ *   the quote is valid, and rejected by a check that is switched on,
+ *     OPC_CHECK_PUT              a put, the bid at its strike or above;
+ *     OPC_CHECK_CALL             a call, the bid at the underlying's value or above; not where that
+ *                                is missing, in an adjusted class, or in extended hours;
+ *     OPC_CHECK_QUOTE_INVERSION  the bid or the offer inverts the market, as below;
+ *   otherwise
+ *     OPC_ACCEPTED.
+ *
+ * A bid inverts the market if it is at the NBO or above; where the own offer equals the NBO, only
+ * if it is above it by more than the set ticks, times the tick at that price. Where the NBBO is
+ * locked, crossed or missing on both sides, the own offer takes the place of the NBO, with the set
+ * ticks. An offer mirrors this, against the NBB and the own bid. A side is not tested where the
+ * price that it is held against is missing, and neither side in a halt, or before the opening
+ * unless the series is open elsewhere.
+ *
+ * *cancel is set to 1 where a check (20, 21 or 26) rejects a quote with one resting, else to 0.
+ */
+uint64_t opc_check_quote(
+    const uint8_t *symbol, size_t symbol_len, uint64_t bid, uint64_t offer, uint64_t resting,
+    /* settings */
+    uint64_t check_20, uint64_t check_21, uint64_t check_22, uint64_t check_23, uint64_t check_24,
+    uint64_t check_25, uint64_t check_26, uint64_t tick_below_3000, uint64_t tick_from_3000,
+    uint64_t net_increment, uint64_t atd_below_1000, uint64_t atd_to_2999, uint64_t atd_to_9999,
+    uint64_t atd_from_10000, uint64_t percentage, uint64_t preset_minimum, uint64_t preset_maximum,
+    uint64_t set_ticks, uint64_t adjusted, uint64_t european_index,
+    /* market */
+    uint64_t phase, uint64_t open_elsewhere, uint64_t extended_hours, uint64_t underlying,
+    uint64_t nbb, uint64_t nbo, uint64_t own_bid, uint64_t own_offer, uint64_t previous_close,
+    /* answer */
+    uint64_t *cancel);
+
+/* opc_check_quote, with quote, settings, market and answer in structs. */
+static inline struct opc_quote_answer opc_answer_quote(const struct opc_quote *quote,
+                                                       const struct opc_settings *settings,
+                                                       const struct opc_market *market) {
+    const struct opc_settings *s = settings;
+    const struct opc_market *m = market;
+    struct opc_quote_answer answer;
+    answer.number = opc_check_quote(
+        quote->symbol, quote->symbol_len, quote->bid, quote->offer, quote->resting, s->check_20,
+        s->check_21, s->check_22, s->check_23, s->check_24, s->check_25, s->check_26,
+        s->tick_below_3000, s->tick_from_3000, s->net_increment, s->atd_below_1000, s->atd_to_2999,
+        s->atd_to_9999, s->atd_from_10000, s->percentage, s->preset_minimum, s->preset_maximum,
+        s->set_ticks, s->adjusted, s->european_index, m->phase, m->open_elsewhere,
+        m->extended_hours, m->underlying, m->nbb, m->nbo, m->own_bid, m->own_offer,
+        m->previous_close, &answer.cancel);
     return answer;
 }
 

@@ -1,0 +1,116 @@
+/*
+ * Checks quotes through the proved library, and prints what it answers: one quote for each number
+ * that a quote can get. Exit status 1 if an answer is another than expected.
+ */
+#include "option_price_check.h"
+
+#include <inttypes.h>
+#include <stdbool.h>
+#include <stdio.h>
+#include <stdlib.h>
+#include <string.h>
+
+#define COUNT(array) (sizeof(array) / sizeof(array)[0])
+
+/* What a case gives beside the quote; all else is document 01's example settings, and missing. */
+struct given {
+    uint64_t set_ticks, phase, underlying, nbo, own_offer;
+};
+
+static const struct given nothing = {4, OPC_PHASE_OPEN, 0, 0, 0};
+static const struct given ticks_1001 = {1001, OPC_PHASE_OPEN, 0, 0, 0};
+static const struct given phase_3 = {4, 3, 0, 0, 0};
+static const struct given underlying_10 = {4, OPC_PHASE_OPEN, 10000, 0, 0};
+/* Where the own offer equals the NBO, a bid may be above it by the set ticks, four of 0.01. */
+static const struct given offers_1_20 = {4, OPC_PHASE_OPEN, 0, 1200, 1200};
+
+struct quote_case {
+    const char *about;
+    const struct given *given;
+    const char *symbol;
+    uint64_t bid, offer, resting;
+    struct opc_quote_answer expected; /* number and cancel flag */
+};
+
+static const struct quote_case cases[] = {
+    {"NBO, own offer 1.20", &offers_1_20, "XYZ   270115C00020000", 1240, 1300, 1, {0, 0}},
+    {"20 bytes", &nothing, "XYZ   270115C0002000", 1000, 1100, 1, {1, 0}},
+    {"strike 0", &nothing, "XYZ   270115C00000000", 1000, 1100, 1, {4, 0}},
+    {"set ticks 1001", &ticks_1001, "XYZ   270115C00020000", 1000, 1100, 1, {9, 0}},
+    {"phase 3", &phase_3, "XYZ   270115C00020000", 1000, 1100, 1, {10, 0}},
+    {"bid at the offer", &nothing, "XYZ   270115C00020000", 1100, 1100, 1, {11, 0}},
+    {"bid at the strike", &nothing, "XYZ   270115P00018000", 18000, 18100, 1, {20, 1}},
+    {"underlying 10", &underlying_10, "XYZ   270115C00005000", 10000, 10100, 0, {21, 0}},
+    {"NBO, own offer 1.20", &offers_1_20, "XYZ   270115C00020000", 1241, 1300, 1, {26, 1}},
+};
+
+static const char *meaning(uint64_t number) {
+    switch (number) {
+    case OPC_ACCEPTED:
+        return "accepted";
+    case OPC_NOT_21_BYTES:
+        return "not 21 bytes";
+    case OPC_BAD_SYMBOL:
+        return "outside layout";
+    case OPC_BAD_SETTING:
+        return "setting";
+    case OPC_BAD_MARKET:
+        return "market value";
+    case OPC_BAD_QUOTE:
+        return "bid and offer";
+    case OPC_CHECK_PUT:
+        return "put check";
+    case OPC_CHECK_CALL:
+        return "call check";
+    case OPC_CHECK_QUOTE_INVERSION:
+        return "quote inversion";
+    default:
+        return "unknown";
+    }
+}
+
+static struct opc_quote_answer answer_to(const struct quote_case *c) {
+    struct opc_quote quote = {
+        .symbol = (const uint8_t *)c->symbol,
+        .symbol_len = strlen(c->symbol),
+        .bid = c->bid,
+        .offer = c->offer,
+        .resting = c->resting,
+    };
+    struct opc_settings settings = OPC_EXAMPLE_SETTINGS;
+    struct opc_market market = OPC_EMPTY_MARKET;
+    settings.set_ticks = c->given->set_ticks;
+    market.phase = c->given->phase;
+    market.underlying = c->given->underlying;
+    market.nbo = c->given->nbo;
+    market.own_offer = c->given->own_offer;
+    return opc_answer_quote(&quote, &settings, &market);
+}
+
+static void print_price(uint64_t price) {
+    printf("  %3" PRIu64 ".%03" PRIu64, price / 1000, price % 1000);
+}
+
+static bool show(const struct quote_case *c) {
+    struct opc_quote_answer a = answer_to(c);
+    bool expected = a.number == c->expected.number && a.cancel == c->expected.cancel;
+    printf("%-19s  %-21s", c->about, c->symbol);
+    print_price(c->bid);
+    print_price(c->offer);
+    printf("  %-7s", c->resting == 0 ? "no" : "yes");
+    printf("  %2" PRIu64 " %-15s", a.number, meaning(a.number));
+    printf("  %" PRIu64 " %s", a.cancel, a.cancel == 0 ? "no" : "yes");
+    printf("%s\n", expected ? "" : "  NOT AS EXPECTED");
+    return expected;
+}
+
+int main(void) {
+    bool expected = true;
+    printf("Quotes (bid and offer in dollars)\n");
+    printf("%-19s  %-21s  %7s  %7s  %-7s  %-18s  %s\n", "case", "symbol", "bid", "offer", "resting",
+           "number", "cancel");
+    for (size_t i = 0; i < COUNT(cases); i++) {
+        expected = show(&cases[i]) && expected;
+    }
+    return expected ? EXIT_SUCCESS : EXIT_FAILURE;
+}

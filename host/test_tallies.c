@@ -1,0 +1,326 @@
+/*
+ * Holds the tallied check to the order check and to exact tallies, and its inline wrapper to the
+ * raw entry. Exit status 1 and a message on the first failure, one line with the number of checks
+ * otherwise.
+ */
+#define _DEFAULT_SOURCE /* for lent_bytes.h */
+#include "lent_bytes.h"
+#include "made_orders.h"
+#include "option_price_check.h"
+
+#include <stdlib.h>
+
+#define RANDOM_CASES 100000
+
+/* The tally lent last, for the message of a failure. */
+static struct opc_tally now;
+static uint64_t checks;
+
+static void expect(bool holds, const char *what) {
+    checks++;
+    if (!holds) {
+        fprintf(stderr, "test_tallies: %s, at check %" PRIu64 "\n", what, checks);
+        fprintf(stderr,
+                "  tally before: seen %" PRIu64 ", refused %" PRIu64 ", accepted %" PRIu64
+                ", rejected %" PRIu64 "\n",
+                now.seen, now.refused, now.accepted, now.rejected);
+        exit(1);
+    }
+}
+
+static bool same(const struct opc_answer *a, const struct opc_answer *b) {
+    return a->number == b->number && a->class_ == b->class_ && a->shape == b->shape &&
+           a->pairings == b->pairings;
+}
+
+static bool same_tally(const struct opc_tally *a, const struct opc_tally *b) {
+    return a->seen == b->seen && a->refused == b->refused && a->accepted == b->accepted &&
+           a->rejected == b->rejected;
+}
+
+static struct opc_answer raw_answer(const struct opc_order *o, const struct opc_settings *s,
+                                    const struct opc_market *m, struct opc_tally *t,
+                                    uint64_t garbage) {
+    struct opc_answer a = {garbage, garbage, garbage, garbage};
+    a.number = opc_check_order_tallied(EACH_OF_ORDER(o), EACH_OF_SETTINGS(s), EACH_OF_MARKET(m),
+                                       &a.class_, &a.shape, &a.pairings, &t->seen, &t->refused,
+                                       &t->accepted, &t->rejected);
+    return a;
+}
+
+/*
+ * Asks the entry and the wrapper, and sees that the lent bytes and those before them are kept. The
+ * entry is asked twice with different garbage in class, shape and pairings, so one that it left
+ * unset shows; each time the tally is the same before.
+ */
+static struct opc_answer answer(const struct made_order *made, struct opc_tally *tally) {
+    static struct lent_bytes symbols, counts;
+    struct opc_order order = lend(made);
+    uint64_t garbage = next_random();
+    struct opc_tally second = *tally, third = *tally;
+    now = *tally;
+    order.symbols = lend_bytes(&symbols, made->symbols, made->symbols_len);
+    order.counts = lend_bytes(&counts, made->counts, made->counts_len);
+    const struct opc_settings *settings = &made->settings;
+    struct opc_answer raw = raw_answer(&order, settings, &made->market, tally, garbage);
+    struct opc_answer again = raw_answer(&order, settings, &made->market, &second, ~garbage);
+    struct opc_answer wrapped = opc_answer_order_tallied(&order, settings, &made->market, &third);
+    expect(same(&raw, &again), "a lent number is not set");
+    expect(same(&raw, &wrapped), "the wrapper gives another answer");
+    expect(same_tally(tally, &second), "the same call leaves another tally");
+    expect(same_tally(tally, &third), "the wrapper leaves another tally");
+    expect(are_kept(&symbols), "a symbol byte is not kept");
+    expect(are_kept(&counts), "a count byte is not kept");
+    return raw;
+}
+
+/* The order check's own answer, and the tally one further. */
+static void expect_counted(const struct made_order *made, struct opc_tally *tally) {
+    struct opc_order order = lend(made);
+    struct opc_answer untallied = opc_answer_order(&order, &made->settings, &made->market);
+    struct opc_tally expected = *tally;
+    expected.seen++;
+    if (untallied.number == OPC_ACCEPTED) {
+        expected.accepted++;
+    } else if (untallied.number >= OPC_CHECK_PUT) {
+        expected.rejected++;
+    } else {
+        expected.refused++;
+    }
+    struct opc_answer a = answer(made, tally);
+    expect(same(&a, &untallied), "another answer than the order check's");
+    expect(same_tally(tally, &expected), "another tally than expected");
+}
+
+/* Number 12, zeros elsewhere, and the tally as it was. */
+static void expect_not_counted(const struct made_order *made, struct opc_tally tally) {
+    const struct opc_answer refused = {OPC_BAD_TALLY, 0, 0, 0};
+    struct opc_tally after = tally;
+    struct opc_answer a = answer(made, &after);
+    expect(same(&a, &refused), "another answer than 12 and zeros");
+    expect(same_tally(&after, &tally), "a tally that was refused is changed");
+}
+
+static void one_leg(struct made_order *m, char option_type, int64_t price) {
+    *m = no_legs();
+    add_leg(m, 270115, option_type, 20000, 1);
+    m->price = price;
+}
+
+static void two_calls(struct made_order *m, int64_t first, int64_t second, int64_t price) {
+    *m = no_legs();
+    add_leg(m, 270115, 'C', 20000, first);
+    add_leg(m, 270115, 'C', 25000, second);
+    m->price = price;
+}
+
+/* An order that the order check gives this number, of 0, the refusals, and 20 to 25. */
+static struct made_order order_given(uint64_t number) {
+    struct made_order m = random_order(OPC_MOST_LEGS);
+    switch (number) {
+    case OPC_ACCEPTED:
+        two_calls(&m, 3, -3, 1000);
+        break;
+    case OPC_CHECK_PUT:
+        one_leg(&m, 'P', 20000);
+        break;
+    case OPC_CHECK_CALL:
+        one_leg(&m, 'C', 1000);
+        m.market.underlying = 1000;
+        break;
+    case OPC_CHECK_BUY_BUY:
+        two_calls(&m, 1, 1, 19);
+        break;
+    case OPC_CHECK_DEBIT_CREDIT:
+        two_calls(&m, 3, -3, -1);
+        break;
+    case OPC_CHECK_MAXIMUM_VALUE:
+        two_calls(&m, 3, -3, 5151);
+        break;
+    case OPC_CHECK_TICK_DISTANCE:
+        one_leg(&m, 'C', 1000);
+        m.market.nbo = 949;
+        break;
+    default:
+        damage(&m, number);
+        break;
+    }
+    return m;
+}
+
+static const uint64_t numbers[] = {
+    OPC_ACCEPTED,      OPC_NOT_21_BYTES,       OPC_BAD_LEG_COUNT,       OPC_BAD_SYMBOL,
+    OPC_BAD_COUNT,     OPC_SERIES_TWICE,       OPC_ROOTS_DIFFER,        OPC_BAD_PRICE,
+    OPC_BAD_SETTING,   OPC_BAD_MARKET,         OPC_CHECK_PUT,           OPC_CHECK_CALL,
+    OPC_CHECK_BUY_BUY, OPC_CHECK_DEBIT_CREDIT, OPC_CHECK_MAXIMUM_VALUE, OPC_CHECK_TICK_DISTANCE};
+
+/* Each number of the order check, counted as its kind from a fresh tally on. */
+static void test_numbers(void) {
+    struct opc_tally tally = OPC_FRESH_TALLY;
+    for (size_t i = 0; i < MADE_COUNT(numbers); i++) {
+        struct made_order m = order_given(numbers[i]);
+        struct opc_tally alone = OPC_FRESH_TALLY;
+        expect(answer(&m, &alone).number == numbers[i], "not the number that was meant");
+        expect_counted(&m, &tally);
+    }
+    const struct opc_tally expected = {.seen = 16, .refused = 9, .accepted = 1, .rejected = 6};
+    now = tally;
+    expect(same_tally(&tally, &expected), "the tally of one check of each number");
+}
+
+/* Tallies that are counted on, up to the last, whichever kinds make them up. */
+static void test_good_tallies(void) {
+    static const struct opc_tally good[] = {
+        {0, 0, 0, 0},           {1, 1, 0, 0},
+        {1, 0, 1, 0},           {1, 0, 0, 1},
+        {6, 1, 2, 3},           {999998, 999998, 0, 0},
+        {999999, 999999, 0, 0}, {999999, 0, 999999, 0},
+        {999999, 0, 0, 999999}, {999999, 333333, 333333, 333333},
+    };
+    for (size_t i = 0; i < MADE_COUNT(good); i++) {
+        for (size_t j = 0; j < MADE_COUNT(numbers); j++) {
+            struct made_order m = order_given(numbers[j]);
+            struct opc_tally tally = good[i];
+            expect_counted(&m, &tally);
+        }
+    }
+}
+
+/* 12 comes first, whatever the order. */
+static void test_bad_tallies(void) {
+    static const uint64_t half = 1ULL << 63, third = UINT64_MAX / 3;
+    const struct opc_tally bad[] = {
+        /* The last check is counted. */
+        {1000000, 1000000, 0, 0},
+        {1000000, 0, 1000000, 0},
+        {1000000, 0, 0, 1000000},
+        {1000001, 1, 1000000, 0},
+        {1ULL << 32, 0, 1ULL << 32, 0},
+        {UINT64_MAX, UINT64_MAX, 0, 0},
+        {UINT64_MAX, third, third, third},
+        /* One more or one less in one of the four. */
+        {7, 1, 2, 3},
+        {5, 1, 2, 3},
+        {6, 2, 2, 3},
+        {6, 0, 2, 3},
+        {6, 1, 3, 3},
+        {6, 1, 1, 3},
+        {6, 1, 2, 4},
+        {6, 1, 2, 2},
+        {1, 0, 0, 0},
+        {0, 1, 0, 0},
+        {0, 0, 1, 0},
+        {0, 0, 0, 1},
+        {999999, 1000000, 0, 0},
+        {1000000, 999999, 0, 0},
+        {1000000, 0, 0, 0},
+        {UINT64_MAX, 0, 0, 0},
+        {0, UINT64_MAX, UINT64_MAX, UINT64_MAX},
+        /* The sum is right in 64 bits only, whichever two are added first. */
+        {0, UINT64_MAX, 1, 0},
+        {0, UINT64_MAX, 0, 1},
+        {0, 0, UINT64_MAX, 1},
+        {0, 1, UINT64_MAX, 0},
+        {5, half, half, 5},
+        {5, half, 5, half},
+        {5, 5, half, half},
+        {4, UINT64_MAX, 2, 3},
+        {999999, UINT64_MAX, 1, 999999},
+        /* Three times two thirds: twice over, and 1. */
+        {1, 2 * third + 1, 2 * third + 1, 2 * third + 1},
+        /* The sum is right in 32 bits only. */
+        {6, 1ULL << 32 | 1, 2, 3},
+        {6, 1, 1ULL << 32 | 2, 3},
+        {6, 1, 2, 1ULL << 32 | 3},
+    };
+    for (size_t i = 0; i < MADE_COUNT(bad); i++) {
+        for (size_t j = 0; j < MADE_COUNT(numbers); j++) {
+            struct made_order m = order_given(numbers[j]);
+            expect_not_counted(&m, bad[i]);
+        }
+    }
+}
+
+static void test_null(void) {
+    struct made_order made = no_legs();
+    struct opc_order order = lend(&made);
+    struct opc_tally tally = OPC_FRESH_TALLY;
+    const struct opc_tally expected = {.seen = 1, .refused = 1, .accepted = 0, .rejected = 0};
+    now = tally;
+    order.symbols = order.counts = NULL;
+    struct opc_answer a = opc_answer_order_tallied(&order, &made.settings, &made.market, &tally);
+    expect(a.number == OPC_BAD_LEG_COUNT && a.class_ == 0 && a.shape == 0 && a.pairings == 0,
+           "NULL with length 0");
+    expect(same_tally(&tally, &expected), "the tally of NULL with length 0");
+}
+
+/* Any order, valid or damaged. */
+static struct made_order any_order(void) {
+    struct made_order m = random_order(one_in(3) ? 1 : between(3, OPC_MOST_LEGS));
+    if (legs_of(&m) > 1 && one_in(3)) {
+        damage(&m, refusals[below(REFUSALS)]);
+    }
+    return m;
+}
+
+/* A session of any orders, each with the tally that the one before left. */
+static void test_random_session(void) {
+    struct opc_tally tally = OPC_FRESH_TALLY;
+    for (size_t i = 0; i < RANDOM_CASES; i++) {
+        struct made_order m = any_order();
+        expect_counted(&m, &tally);
+    }
+    expect(tally.seen == RANDOM_CASES, "the number of checks in a session");
+    expect(tally.refused > 0 && tally.accepted > 0 && tally.rejected > 0,
+           "a session without one of the kinds");
+}
+
+/* Any tallies, from near misses to any 64 bits. */
+static void test_random_tallies(void) {
+    for (size_t i = 0; i < RANDOM_CASES; i++) {
+        struct made_order m = any_order();
+        struct opc_tally t = {
+            .refused = below(333334), .accepted = below(333334), .rejected = below(333334)};
+        uint64_t *fields[] = {&t.seen, &t.refused, &t.accepted, &t.rejected};
+        t.seen = t.refused + t.accepted + t.rejected;
+        if (one_in(2)) {
+            expect_counted(&m, &t);
+        } else {
+            uint64_t change = between(1, UINT64_MAX - 1) >> below(63);
+            *fields[below(MADE_COUNT(fields))] += change == 0 ? 1 : change;
+            expect_not_counted(&m, t);
+        }
+    }
+}
+
+/* A whole session: a million checks are counted, and the one after that is not. */
+static void test_whole_session(void) {
+    const struct made_order made[] = {order_given(OPC_BAD_LEG_COUNT), order_given(OPC_ACCEPTED),
+                                      order_given(OPC_CHECK_PUT), order_given(OPC_BAD_COUNT)};
+    struct opc_tally tally = OPC_FRESH_TALLY;
+    const struct opc_tally whole = {OPC_MOST_TALLIED, OPC_MOST_TALLIED / 2, OPC_MOST_TALLIED / 4,
+                                    OPC_MOST_TALLIED / 4};
+    for (size_t i = 0; i < OPC_MOST_TALLIED; i++) {
+        const struct made_order *m = &made[i % MADE_COUNT(made)];
+        struct opc_order order = lend(m);
+        now = tally;
+        struct opc_answer a = opc_answer_order_tallied(&order, &m->settings, &m->market, &tally);
+        expect(a.number != OPC_BAD_TALLY && tally.seen == i + 1, "a check that is not counted");
+    }
+    expect(same_tally(&tally, &whole), "the tally of a whole session");
+    for (size_t i = 0; i < MADE_COUNT(made); i++) {
+        expect_not_counted(&made[i], tally);
+    }
+}
+
+int main(void) {
+    test_numbers();
+    test_good_tallies();
+    test_bad_tallies();
+    test_null();
+    test_random_session();
+    test_random_tallies();
+    test_whole_session();
+    printf("test_tallies: %" PRIu64 " checks hold\n", checks);
+    return 0;
+}
