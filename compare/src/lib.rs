@@ -7,6 +7,7 @@
 #![deny(unsafe_code)]
 
 pub mod arrival;
+pub mod case;
 pub mod checks;
 pub mod class;
 pub mod examples;
@@ -19,6 +20,7 @@ pub mod random;
 pub mod run;
 pub mod series;
 pub mod shape;
+pub mod text;
 #[allow(unsafe_code)] // calls through C
 pub mod unit;
 
