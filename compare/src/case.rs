@@ -4,6 +4,8 @@
 use crate::{
     arrival::{Answer, Arrival},
     order,
+    quote::{Quote, QuoteAnswer},
+    quote_check,
     run::Seen,
     unit, ACCEPTED,
 };
@@ -57,5 +59,37 @@ impl Case for Arrival {
             *seen.shapes.entry(answer.shape).or_default() += 1;
             *seen.pairings.entry(answer.pairings).or_default() += 1;
         }
+    }
+}
+
+impl Case for Quote {
+    type Answer = QuoteAnswer;
+
+    fn library(&self) -> QuoteAnswer {
+        unit::check_quote(self)
+    }
+
+    fn second(&self) -> QuoteAnswer {
+        quote_check::check(self)
+    }
+
+    fn described(&self) -> String {
+        format!(
+            "  quote of \"{}\"
+  bid {}, offer {}, resting {}
+  {:?}
+  {:?}",
+            self.symbol.escape_ascii(),
+            self.bid,
+            self.offer,
+            self.resting,
+            self.settings,
+            self.market,
+        )
+    }
+
+    fn count(answer: &QuoteAnswer, seen: &mut Seen) {
+        *seen.numbers.entry(answer.number).or_default() += 1;
+        *seen.cancels.entry(answer.cancel).or_default() += 1;
     }
 }

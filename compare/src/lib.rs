@@ -1,9 +1,9 @@
 //! The proved library beside a second implementation of the same rules, in the same types, so that
 //! a test can put one question to both.
 //!
-//! `unit` is the library. The second implementation is `osi` for symbols and `order`, with
-//! `pairing`, `shape`, `class` and `checks` below it, for orders. `examples` are those of the
-//! papers, `generate` makes orders up, and `run` puts them to both and counts.
+//! `unit` is the library. The second implementation is `osi` for symbols, `order`, with `pairing`,
+//! `shape`, `class` and `checks` below it, for orders, and `quote_check` for quotes. `examples` are
+//! those of the papers, `generate` makes cases up, and `run` puts them to both and counts.
 #![deny(unsafe_code)]
 
 pub mod arrival;
@@ -16,6 +16,8 @@ pub mod legs;
 pub mod order;
 pub mod osi;
 pub mod pairing;
+pub mod quote;
+pub mod quote_check;
 pub mod random;
 pub mod run;
 pub mod series;

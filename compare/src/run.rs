@@ -13,6 +13,9 @@ pub const CASE_VARIABLE: &str = "COMPARE_CASE";
 /// The numbers that the order check can give.
 pub const NUMBERS: [u64; 16] = [0, 1, 3, 4, 5, 6, 7, 8, 9, 10, 20, 21, 22, 23, 24, 25];
 
+/// The numbers that the quote check can give.
+pub const QUOTE_NUMBERS: [u64; 9] = [0, 1, 4, 9, 10, 11, 20, 21, 26];
+
 pub type Counts = BTreeMap<u64, u64>;
 
 /// How often each value was answered.
@@ -22,6 +25,7 @@ pub struct Seen {
     pub classes: Counts,
     pub shapes: Counts,
     pub pairings: Counts,
+    pub cancels: Counts,
 }
 
 pub struct Run {
@@ -98,6 +102,7 @@ to run it again, in compare/:
             ("class", &self.seen.classes),
             ("shape", &self.seen.shapes),
             ("pairings", &self.seen.pairings),
+            ("cancel", &self.seen.cancels),
         ] {
             for (value, times) in counts {
                 println!("{name}: {what:>8} {value:>2} {times:>9} times");
@@ -114,6 +119,13 @@ to run it again, in compare/:
         self.given_each("class", &seen.classes, 0..=2, least);
         self.given_each("shape", &seen.shapes, 0..=4, least);
         self.given_each("pairings", &seen.pairings, 0..=15, least / 10);
+    }
+
+    /// The same for quotes: each number that they can get, and both values of the cancel flag.
+    pub fn require_of_quotes(&self, least: u64) {
+        let seen = &self.seen;
+        self.given_each("number", &seen.numbers, QUOTE_NUMBERS, least);
+        self.given_each("cancel", &seen.cancels, 0..=1, least);
     }
 
     fn given_each(
