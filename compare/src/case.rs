@@ -7,6 +7,7 @@ use crate::{
     quote::{Quote, QuoteAnswer},
     quote_check,
     run::Seen,
+    tally::{self, Tallied, TalliedAnswer},
     unit, ACCEPTED,
 };
 use std::fmt::{Debug, Display};
@@ -59,6 +60,26 @@ impl Case for Arrival {
             *seen.shapes.entry(answer.shape).or_default() += 1;
             *seen.pairings.entry(answer.pairings).or_default() += 1;
         }
+    }
+}
+
+impl Case for Tallied {
+    type Answer = TalliedAnswer;
+
+    fn library(&self) -> TalliedAnswer {
+        unit::check_order_tallied(self)
+    }
+
+    fn second(&self) -> TalliedAnswer {
+        tally::check(self)
+    }
+
+    fn described(&self) -> String {
+        format!("  {:?}\n{}", self.tally, self.arrival.described())
+    }
+
+    fn count(answer: &TalliedAnswer, seen: &mut Seen) {
+        Arrival::count(&answer.answer, seen);
     }
 }
 

@@ -2,8 +2,9 @@
 //! a test can put one question to both.
 //!
 //! `unit` is the library. The second implementation is `osi` for symbols, `order`, with `pairing`,
-//! `shape`, `class` and `checks` below it, for orders, and `quote_check` for quotes. `examples` are
-//! those of the papers, `generate` makes cases up, and `run` puts them to both and counts.
+//! `shape`, `class` and `checks` below it, for orders, `tally` for tallied ones and `quote_check` for
+//! quotes. `examples` are those of the papers, `generate` makes cases up, and `run` puts them to
+//! both and counts.
 #![deny(unsafe_code)]
 
 pub mod arrival;
@@ -22,6 +23,7 @@ pub mod random;
 pub mod run;
 pub mod series;
 pub mod shape;
+pub mod tally;
 pub mod text;
 #[allow(unsafe_code)] // calls through C
 pub mod unit;

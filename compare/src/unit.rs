@@ -3,6 +3,7 @@
 use crate::{
     arrival::{Answer, Arrival},
     quote::{Quote, QuoteAnswer},
+    tally::{Tallied, TalliedAnswer},
     Parts, Read, Written,
 };
 
@@ -72,6 +73,54 @@ extern "C" {
         class: &mut u64,
         shape: &mut u64,
         pairings: &mut u64,
+    ) -> u64;
+
+    fn opc_check_order_tallied(
+        symbols: *const u8,
+        symbols_len: usize,
+        counts: *const u8,
+        counts_len: usize,
+        price: i64,
+        kind: u64,
+        stop: u64,
+        manual: u64,
+        opening: u64,
+        switch_20: u64,
+        switch_21: u64,
+        switch_22: u64,
+        switch_23: u64,
+        switch_24: u64,
+        switch_25: u64,
+        switch_26: u64,
+        tick_below_3000: u64,
+        tick_from_3000: u64,
+        net_increment: u64,
+        atd_below_1000: u64,
+        atd_to_2999: u64,
+        atd_to_9999: u64,
+        atd_from_10000: u64,
+        percentage: u64,
+        preset_minimum: u64,
+        preset_maximum: u64,
+        set_ticks: u64,
+        adjusted: u64,
+        european: u64,
+        phase: u64,
+        open_elsewhere: u64,
+        extended_hours: u64,
+        underlying: u64,
+        nbb: u64,
+        nbo: u64,
+        own_bid: u64,
+        own_offer: u64,
+        close: u64,
+        class: &mut u64,
+        shape: &mut u64,
+        pairings: &mut u64,
+        seen: &mut u64,
+        refused: &mut u64,
+        accepted: &mut u64,
+        rejected: &mut u64,
     ) -> u64;
 
     fn opc_check_quote(
@@ -205,6 +254,46 @@ pub fn check_order(arrival: &Arrival) -> Answer {
         shape,
         pairings,
     }
+}
+
+pub fn check_order_tallied(tallied: &Tallied) -> TalliedAnswer {
+    let (arrival, mut tally) = (&tallied.arrival, tallied.tally);
+    let (mut class, mut shape, mut pairings) = (UNSET, UNSET, UNSET);
+    // SAFETY: as for the order check, and the tally's numbers are distinct fields.
+    let number = unsafe {
+        call_with!(
+            opc_check_order_tallied,
+            arrival.settings,
+            arrival.market,
+            [
+                arrival.symbols.as_ptr(),
+                arrival.symbols.len(),
+                arrival.counts.as_ptr(),
+                arrival.counts.len(),
+                arrival.price,
+                arrival.kind,
+                arrival.stop,
+                arrival.manual,
+                arrival.opening
+            ],
+            [
+                &mut class,
+                &mut shape,
+                &mut pairings,
+                &mut tally.seen,
+                &mut tally.refused,
+                &mut tally.accepted,
+                &mut tally.rejected
+            ]
+        )
+    };
+    let answer = Answer {
+        number,
+        class,
+        shape,
+        pairings,
+    };
+    TalliedAnswer { answer, tally }
 }
 
 pub fn check_quote(quote: &Quote) -> QuoteAnswer {

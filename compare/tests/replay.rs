@@ -9,6 +9,7 @@ use compare::{
     quote::{Quote, QUOTE},
     random::Random,
     run::{Run, CASE_VARIABLE},
+    tally::{Tallied, Tally, TALLIED},
 };
 use std::{env, fmt::Debug, str::FromStr};
 
@@ -19,6 +20,7 @@ fn replay() {
     };
     match line.split_whitespace().next() {
         Some(QUOTE) => again::<Quote>(&line),
+        Some(TALLIED) => again::<Tallied>(&line),
         _ => {
             let arrival = read(&line);
             println!("by contracts: {:?}", order::check_by_contracts(&arrival));
@@ -50,7 +52,10 @@ fn lines_read_back() {
     });
     let mut random = Random::new(1);
     for _ in 0..10_000 {
-        reads_back(&generate::arrival(&mut random));
+        let arrival = generate::arrival(&mut random);
+        reads_back(&arrival);
+        let tally = Tally::of_numbers([0; 4].map(|_| random.number()));
+        reads_back(&Tallied { arrival, tally });
         reads_back(&generate::quote(&mut random));
     }
 }
