@@ -56,6 +56,35 @@ fn every_small_quote(run: &mut Run, market: Market, set_ticks: u64) {
     }
 }
 
+/// National best and own prices from 0 to 6, bids and offers from 1 to 9, 0 to 3 set ticks: room for
+/// every sequence of the six prices, with and without the set ticks between them.
+#[test]
+fn every_sequence_of_prices() {
+    let mut run = Run::new("sequences of prices");
+    for code in 0..7_u64.pow(4) {
+        let value = |place: u32| code / 7_u64.pow(place) % 7;
+        let mut quote = of_call(0, 0);
+        quote.settings.tick_below_3000 = 1;
+        quote.market = Market {
+            nbb: value(0),
+            nbo: value(1),
+            own_bid: value(2),
+            own_offer: value(3),
+            ..EXAMPLE_MARKET
+        };
+        for set_ticks in 0..=3 {
+            quote.settings.set_ticks = set_ticks;
+            for (bid, offer) in (1..=8).flat_map(|bid| (bid + 1..=9).map(move |o| (bid, o))) {
+                (quote.bid, quote.offer) = (bid, offer);
+                quote.resting = (bid + offer) % 2;
+                run.compare(&quote);
+            }
+        }
+    }
+    finish(&run, &[0, 26], 2_401 * 4 * 36);
+    assert!(run.given(0).min(run.given(26)) > 50_000);
+}
+
 /// National best and own prices around the limit of the two ticks, at every price next to a limit
 /// that one of them could draw.
 #[test]
