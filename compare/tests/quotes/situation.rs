@@ -104,7 +104,7 @@ fn place(quote: &Quote, side: Side, price: u64, compared: u64) -> Place {
     match (above, above - ticks) {
         (-1, _) => Place::OneBelow,
         (0, _) => Place::At,
-        // With no set ticks, at the price is at the set ticks: those are the first three alone.
+        // With no set ticks, one above is one beyond them.
         (1, _) if ticks != 0 => Place::OneAbove,
         (..=-2, _) => Place::Below,
         (_, -1) => Place::OneBeforeSetTicks,
