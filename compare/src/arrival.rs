@@ -1,6 +1,7 @@
 //! One arrival: everything that one call of the order check is handed, and what it answers. An
 //! arrival can be written as one line of text and read back, so that a case can be run again.
 
+use crate::text::{bytes, hexadecimal, list, numbers};
 use std::{fmt, str::FromStr};
 
 /// The settings, in the sequence of the C face.
@@ -242,37 +243,4 @@ impl FromStr for Arrival {
             market: Market::of_numbers(numbers(market)?),
         })
     }
-}
-
-fn hexadecimal(bytes: &[u8]) -> String {
-    if bytes.is_empty() {
-        return "-".to_string();
-    }
-    bytes.iter().map(|byte| format!("{byte:02x}")).collect()
-}
-
-fn bytes(word: &str) -> Result<Vec<u8>, String> {
-    if word == "-" {
-        return Ok(Vec::new());
-    }
-    let digits: Option<Vec<u32>> = word.chars().map(|c| c.to_digit(16)).collect();
-    let digits = digits.filter(|digits| digits.len() % 2 == 0);
-    let digits = digits.ok_or_else(|| format!("bytes {word}"))?;
-    Ok(digits
-        .chunks(2)
-        .map(|two| (two[0] * 16 + two[1]) as u8)
-        .collect())
-}
-
-fn list(numbers: &[u64]) -> String {
-    let words: Vec<String> = numbers.iter().map(u64::to_string).collect();
-    words.join(",")
-}
-
-fn numbers<const N: usize>(word: &str) -> Result<[u64; N], String> {
-    let numbers: Result<Vec<u64>, _> = word.split(',').map(str::parse).collect();
-    let numbers = numbers.map_err(|_| format!("numbers {word}"))?;
-    numbers
-        .try_into()
-        .map_err(|_| format!("not {N} numbers: {word}"))
 }

@@ -115,15 +115,15 @@ fn tick_distance(order: &Order, settings: &Settings, market: &Market) -> bool {
 }
 
 /// The market's prices as a buyer sees them, or a seller with every sign turned.
-struct Seen {
-    near: i128,
-    far: i128,
-    own_far: i128,
-    close: i128,
+pub struct Seen {
+    pub near: i128,
+    pub far: i128,
+    pub own_far: i128,
+    pub close: i128,
 }
 
 impl Seen {
-    fn from(market: &Market, side: i128) -> Self {
+    pub fn from(market: &Market, side: i128) -> Self {
         let (near, far, own_far) = if side > 0 {
             (market.nbb, market.nbo, market.own_offer)
         } else {
@@ -139,7 +139,7 @@ impl Seen {
     }
 
     /// Locked, crossed or unavailable.
-    fn nbbo_is_unreliable(&self) -> bool {
+    pub fn nbbo_is_unreliable(&self) -> bool {
         match (self.near != 0, self.far != 0) {
             (true, true) => self.near >= self.far,
             (near, far) => !near && !far,
@@ -163,8 +163,16 @@ fn reference(seen: &Seen, market: &Market) -> i128 {
 
 /// D, by the band and the tick of the reference.
 pub fn distance(settings: &Settings, reference: i128) -> i128 {
-    let reached = |limits: &[i128]| limits.iter().filter(|&&l| reference.abs() >= l).count();
-    let ticks = settings.distances[reached(&[1_000, 3_000, 10_000])];
-    let tick = [settings.tick_below_3000, settings.tick_from_3000][reached(&[3_000])];
-    i128::from(ticks) * i128::from(tick)
+    let ticks = settings.distances[reached(&[1_000, 3_000, 10_000], reference)];
+    i128::from(ticks) * tick(settings, reference)
+}
+
+/// The tick at a price.
+pub fn tick(settings: &Settings, price: i128) -> i128 {
+    [settings.tick_below_3000, settings.tick_from_3000][reached(&[3_000], price)].into()
+}
+
+/// How many of some limits a price has reached.
+fn reached(limits: &[i128], price: i128) -> usize {
+    limits.iter().filter(|&&limit| price.abs() >= limit).count()
 }

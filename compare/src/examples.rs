@@ -2,9 +2,8 @@
 //! by hand from document 01 where an example does not print them. Prices have document 01's sign;
 //! the filings print debits with a minus.
 //!
-//! Left out of the filings, because the order check has no part for them:
-//! - 000: the quotes 14.00 to 16.00 and 18.00 to 19.00, the quotes at 3.80 and 2.85, and the quote
-//!   bids of 1.24 and 1.22 with their fills: quotes and executions;
+//! Left out of the filings, because neither check has a part for them:
+//! - 000: the fills of the quote bids of 1.24 and 1.22: executions;
 //! - 002: it prints no example;
 //! - 004: the sale of 1 Mar 45 call with 100 shares, the sale of 1 Mar 45 and 1 Mar 50 call with
 //!   100 shares, and footnotes 9 and 10 on them: stock (document 01's T7 is the second without its
@@ -13,6 +12,7 @@
 
 use crate::{
     arrival::{Answer, Arrival, Market, RawLeg, Settings, EXAMPLE_MARKET, EXAMPLE_SETTINGS},
+    quote::{Quote, QuoteAnswer},
     series::{call, put, Series},
 };
 
@@ -308,10 +308,88 @@ fn of_004() -> Vec<Example> {
     ])
 }
 
+/// A place, a quote and its whole answer.
+pub type QuoteExample = (&'static str, Quote, QuoteAnswer);
+
+/// The quotes of 000. An offer, or a bid, is made up where none is printed, far enough from the
+/// other to decide nothing; and so is who makes the national best, where nothing is said.
+pub fn quotes_of_000() -> Vec<QuoteExample> {
+    let mut rows = quotes_of_put();
+    rows.extend(quotes_at_three_dollars());
+    rows.extend(quotes_at_one_dollar());
+    let answer = |[number, cancel]: [u64; 2]| QuoteAnswer { number, cancel };
+    let examples = rows.into_iter();
+    examples
+        .map(|(place, quote, numbers)| (place, quote, answer(numbers)))
+        .collect()
+}
+
+/// A place, a quote, and its number and cancel flag.
+type QuoteRow = (&'static str, Quote, [u64; 2]);
+
+/// 'puts with a strike price of $18.00'; the second quote arrives with the first resting, and the
+/// third with none.
+fn quotes_of_put() -> Vec<QuoteRow> {
+    let symbol = put(MAR, 18_000).symbol();
+    let mut update = Quote::new(&symbol, 18_000, 19_000);
+    update.resting = 1;
+    vec![
+        ("000, 14-16", Quote::new(&symbol, 14_000, 16_000), [0, 0]),
+        ("000, 18-19", update, [20, 1]),
+        ("000, 16-17", Quote::new(&symbol, 16_000, 17_000), [0, 0]),
+    ]
+}
+
+/// 'a tick distance of three ... $0.05 for series quoted below $3 and $0.10 ... the NBBO is 3.10 to
+/// 3.40'
+fn quotes_at_three_dollars() -> Vec<QuoteRow> {
+    let quote = |bid, offer, at_best: bool| {
+        let mut quote = Quote::new(&call(MAR, 20_000).symbol(), bid, offer);
+        quote.settings.set_ticks = 3;
+        (
+            quote.settings.tick_below_3000,
+            quote.settings.tick_from_3000,
+        ) = (50, 100);
+        (quote.market.nbb, quote.market.nbo) = (3_100, 3_400);
+        if at_best {
+            (quote.market.own_bid, quote.market.own_offer) = (3_100, 3_400);
+        }
+        quote
+    };
+    vec![
+        ("000, bid 3.80", quote(3_800, 4_000, true), [26, 0]),
+        ("000, bid 3.70", quote(3_700, 4_000, true), [0, 0]),
+        ("000, bid 3.40", quote(3_400, 4_000, false), [26, 0]),
+        ("000, bid 3.39", quote(3_390, 4_000, false), [0, 0]),
+        // The filing rejects 2.85, which is more than three ticks below 3.10 if the ticks below 3
+        // are the smaller ones. Document 01 has the tick at the NBB: three are 0.30, to 2.80.
+        ("000, offer 2.85", quote(1_000, 2_850, true), [0, 0]),
+        ("000, offer 2.80", quote(1_000, 2_800, true), [0, 0]),
+        ("000, offer 2.79", quote(1_000, 2_799, true), [26, 0]),
+        ("000, offer 2.85", quote(1_000, 2_850, false), [26, 0]),
+    ]
+}
+
+/// 'the NBBO is 1.00 to 1.20 ... a minimum increment of 0.01 and ... the tick distance ... at five'
+fn quotes_at_one_dollar() -> Vec<QuoteRow> {
+    let quote = |bid, own_offer| {
+        let mut quote = Quote::new(&call(MAR, 20_000).symbol(), bid, 2_000);
+        quote.settings.set_ticks = 5;
+        (quote.market.nbb, quote.market.nbo) = (1_000, 1_200);
+        (quote.market.own_bid, quote.market.own_offer) = (1_000, own_offer);
+        quote
+    };
+    vec![
+        ("000, bid 1.24", quote(1_240, 1_200), [0, 0]),
+        ("000, bid 1.22", quote(1_220, 1_200), [0, 0]),
+        ("000, bid 1.24, NBO away", quote(1_240, 1_230), [26, 0]),
+    ]
+}
+
 #[cfg(test)]
 mod tests {
     use super::*;
-    use crate::order;
+    use crate::{order, quote_check};
 
     /// The second implementation by itself.
     #[test]
@@ -322,6 +400,13 @@ mod tests {
             assert_eq!(order::check(arrival), example.answer, "{place}");
             let by_contracts = order::check_by_contracts(arrival);
             assert_eq!(by_contracts, example.answer, "{place}, by contracts");
+        }
+    }
+
+    #[test]
+    fn the_second_implementation_holds_every_quote() {
+        for (place, quote, answer) in quotes_of_000() {
+            assert_eq!(quote_check::check(&quote), answer, "{place}");
         }
     }
 }

@@ -1,12 +1,14 @@
 //! The proved library beside a second implementation of the same rules, in the same types, so that
 //! a test can put one question to both.
 //!
-//! `unit` is the library. The second implementation is `osi` for symbols and `order`, with
-//! `pairing`, `shape`, `class` and `checks` below it, for orders. `examples` are those of the
-//! papers, `generate` makes orders up, and `run` puts them to both and counts.
+//! `unit` is the library. The second implementation is `osi` for symbols, `order`, with `pairing`,
+//! `shape`, `class` and `checks` below it, for orders, `tally` for tallied ones and `quote_check` for
+//! quotes. `examples` are those of the papers, `generate` makes cases up, and `run` puts them to
+//! both and counts.
 #![deny(unsafe_code)]
 
 pub mod arrival;
+pub mod case;
 pub mod checks;
 pub mod class;
 pub mod examples;
@@ -15,10 +17,14 @@ pub mod legs;
 pub mod order;
 pub mod osi;
 pub mod pairing;
+pub mod quote;
+pub mod quote_check;
 pub mod random;
 pub mod run;
 pub mod series;
 pub mod shape;
+pub mod tally;
+pub mod text;
 #[allow(unsafe_code)] // calls through C
 pub mod unit;
 

@@ -65,7 +65,7 @@ fn check_paired(arrival: &Arrival, pair: fn(&[Leg], bool) -> Paired) -> Answer {
     }
 }
 
-fn lowest(numbers: &[(u64, bool)]) -> Option<u64> {
+pub fn lowest(numbers: &[(u64, bool)]) -> Option<u64> {
     let applying = numbers.iter().filter(|(_, applies)| *applies);
     applying.map(|(number, _)| *number).min()
 }
@@ -161,7 +161,7 @@ fn price_is_wrong(price: i128, counts: &[i128]) -> bool {
     price.abs() > LARGEST_PRICE || sign_is_wrong
 }
 
-fn settings_are_within_limits(settings: &Settings) -> bool {
+pub fn settings_are_within_limits(settings: &Settings) -> bool {
     let increments = [
         settings.tick_below_3000,
         settings.tick_from_3000,
@@ -176,7 +176,7 @@ fn settings_are_within_limits(settings: &Settings) -> bool {
         && !presets.is_empty()
 }
 
-fn market_is_within_limits(market: &Market) -> bool {
+pub fn market_is_within_limits(market: &Market) -> bool {
     let [phase, _open_elsewhere, _extended_hours, values @ ..] = market.numbers();
     phase <= 2 && values.iter().all(|&value| value <= LARGEST_MARKET_VALUE)
 }

@@ -2,6 +2,8 @@
 
 use crate::{
     arrival::{Answer, Arrival},
+    quote::{Quote, QuoteAnswer},
+    tally::{Tallied, TalliedAnswer},
     Parts, Read, Written,
 };
 
@@ -72,6 +74,108 @@ extern "C" {
         shape: &mut u64,
         pairings: &mut u64,
     ) -> u64;
+
+    fn opc_check_order_tallied(
+        symbols: *const u8,
+        symbols_len: usize,
+        counts: *const u8,
+        counts_len: usize,
+        price: i64,
+        kind: u64,
+        stop: u64,
+        manual: u64,
+        opening: u64,
+        switch_20: u64,
+        switch_21: u64,
+        switch_22: u64,
+        switch_23: u64,
+        switch_24: u64,
+        switch_25: u64,
+        switch_26: u64,
+        tick_below_3000: u64,
+        tick_from_3000: u64,
+        net_increment: u64,
+        atd_below_1000: u64,
+        atd_to_2999: u64,
+        atd_to_9999: u64,
+        atd_from_10000: u64,
+        percentage: u64,
+        preset_minimum: u64,
+        preset_maximum: u64,
+        set_ticks: u64,
+        adjusted: u64,
+        european: u64,
+        phase: u64,
+        open_elsewhere: u64,
+        extended_hours: u64,
+        underlying: u64,
+        nbb: u64,
+        nbo: u64,
+        own_bid: u64,
+        own_offer: u64,
+        close: u64,
+        class: &mut u64,
+        shape: &mut u64,
+        pairings: &mut u64,
+        seen: &mut u64,
+        refused: &mut u64,
+        accepted: &mut u64,
+        rejected: &mut u64,
+    ) -> u64;
+
+    fn opc_check_quote(
+        symbol: *const u8,
+        symbol_len: usize,
+        bid: u64,
+        offer: u64,
+        resting: u64,
+        switch_20: u64,
+        switch_21: u64,
+        switch_22: u64,
+        switch_23: u64,
+        switch_24: u64,
+        switch_25: u64,
+        switch_26: u64,
+        tick_below_3000: u64,
+        tick_from_3000: u64,
+        net_increment: u64,
+        atd_below_1000: u64,
+        atd_to_2999: u64,
+        atd_to_9999: u64,
+        atd_from_10000: u64,
+        percentage: u64,
+        preset_minimum: u64,
+        preset_maximum: u64,
+        set_ticks: u64,
+        adjusted: u64,
+        european: u64,
+        phase: u64,
+        open_elsewhere: u64,
+        extended_hours: u64,
+        underlying: u64,
+        nbb: u64,
+        nbo: u64,
+        own_bid: u64,
+        own_offer: u64,
+        close: u64,
+        cancel: &mut u64,
+    ) -> u64;
+}
+
+/// Calls an entry that takes settings and a market, number by number, between other arguments.
+macro_rules! call_with {
+    ($entry:ident, $settings:expr, $market:expr, [$($before:expr),*], [$($after:expr),*]) => {{
+        let [s0, s1, s2, s3, s4, s5, s6, s7, s8, s9, rest @ ..] = $settings.numbers();
+        let [s10, s11, s12, s13, s14, s15, s16, s17, s18, s19] = rest;
+        let [m0, m1, m2, m3, m4, m5, m6, m7, m8] = $market.numbers();
+        $entry(
+            $($before,)*
+            s0, s1, s2, s3, s4, s5, s6, s7, s8, s9,
+            s10, s11, s12, s13, s14, s15, s16, s17, s18, s19,
+            m0, m1, m2, m3, m4, m5, m6, m7, m8,
+            $($after),*
+        )
+    }};
 }
 
 /// What a lent number holds before a call: no answer, so that one which is not set is seen.
@@ -122,54 +226,26 @@ pub fn write(parts: &Parts, out: &mut [u8]) -> Written {
 }
 
 pub fn check_order(arrival: &Arrival) -> Answer {
-    let s = arrival.settings.numbers();
-    let m = arrival.market.numbers();
     let (mut class, mut shape, mut pairings) = (UNSET, UNSET, UNSET);
     // SAFETY: each pointer is valid for its length, and the lent numbers are apart from each other
     // and from the bytes.
     let number = unsafe {
-        opc_check_order(
-            arrival.symbols.as_ptr(),
-            arrival.symbols.len(),
-            arrival.counts.as_ptr(),
-            arrival.counts.len(),
-            arrival.price,
-            arrival.kind,
-            arrival.stop,
-            arrival.manual,
-            arrival.opening,
-            s[0],
-            s[1],
-            s[2],
-            s[3],
-            s[4],
-            s[5],
-            s[6],
-            s[7],
-            s[8],
-            s[9],
-            s[10],
-            s[11],
-            s[12],
-            s[13],
-            s[14],
-            s[15],
-            s[16],
-            s[17],
-            s[18],
-            s[19],
-            m[0],
-            m[1],
-            m[2],
-            m[3],
-            m[4],
-            m[5],
-            m[6],
-            m[7],
-            m[8],
-            &mut class,
-            &mut shape,
-            &mut pairings,
+        call_with!(
+            opc_check_order,
+            arrival.settings,
+            arrival.market,
+            [
+                arrival.symbols.as_ptr(),
+                arrival.symbols.len(),
+                arrival.counts.as_ptr(),
+                arrival.counts.len(),
+                arrival.price,
+                arrival.kind,
+                arrival.stop,
+                arrival.manual,
+                arrival.opening
+            ],
+            [&mut class, &mut shape, &mut pairings]
         )
     };
     Answer {
@@ -178,4 +254,65 @@ pub fn check_order(arrival: &Arrival) -> Answer {
         shape,
         pairings,
     }
+}
+
+pub fn check_order_tallied(tallied: &Tallied) -> TalliedAnswer {
+    let (arrival, mut tally) = (&tallied.arrival, tallied.tally);
+    let (mut class, mut shape, mut pairings) = (UNSET, UNSET, UNSET);
+    // SAFETY: as for the order check, and the tally's numbers are distinct fields.
+    let number = unsafe {
+        call_with!(
+            opc_check_order_tallied,
+            arrival.settings,
+            arrival.market,
+            [
+                arrival.symbols.as_ptr(),
+                arrival.symbols.len(),
+                arrival.counts.as_ptr(),
+                arrival.counts.len(),
+                arrival.price,
+                arrival.kind,
+                arrival.stop,
+                arrival.manual,
+                arrival.opening
+            ],
+            [
+                &mut class,
+                &mut shape,
+                &mut pairings,
+                &mut tally.seen,
+                &mut tally.refused,
+                &mut tally.accepted,
+                &mut tally.rejected
+            ]
+        )
+    };
+    let answer = Answer {
+        number,
+        class,
+        shape,
+        pairings,
+    };
+    TalliedAnswer { answer, tally }
+}
+
+pub fn check_quote(quote: &Quote) -> QuoteAnswer {
+    let mut cancel = UNSET;
+    // SAFETY: the pointer is valid for its length, and the lent number is apart from the bytes.
+    let number = unsafe {
+        call_with!(
+            opc_check_quote,
+            quote.settings,
+            quote.market,
+            [
+                quote.symbol.as_ptr(),
+                quote.symbol.len(),
+                quote.bid,
+                quote.offer,
+                quote.resting
+            ],
+            [&mut cancel]
+        )
+    };
+    QuoteAnswer { number, cancel }
 }

@@ -1,7 +1,7 @@
 //! Every example of the papers, held by both implementations. `src/examples.rs` says which were
 //! left out, and why.
 
-use compare::{examples, order, run::Run};
+use compare::{examples, order, quote_check, run::Run};
 
 #[test]
 fn both_hold_every_example() {
@@ -18,4 +18,15 @@ fn both_hold_every_example() {
     for number in [0, 20, 21, 22, 23, 24, 25] {
         assert!(run.given(number) > 0, "number {number}");
     }
+}
+
+#[test]
+fn both_hold_every_quote() {
+    let mut run = Run::new("quotes of papers");
+    for (place, quote, answer) in examples::quotes_of_000() {
+        assert_eq!(quote_check::check(&quote), answer, "{place}");
+        run.expect(&quote, answer, place);
+    }
+    run.report();
+    assert_eq!((run.given(0), run.given(20), run.given(26)), (8, 1, 5));
 }

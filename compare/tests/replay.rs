@@ -1,41 +1,66 @@
 //! One case again, from the line that a difference prints:
 //! `COMPARE_CASE='...' cargo test --release --test replay -- --nocapture`.
-//! Without that variable: the lines of all examples read back as the same arrivals.
+//! Without that variable: the lines of many cases read back as the same cases.
 
 use compare::{
     arrival::Arrival,
-    examples, order,
+    case::Case,
+    examples, generate, order,
+    quote::{Quote, QUOTE},
+    random::Random,
     run::{Run, CASE_VARIABLE},
-    unit,
+    tally::{Tallied, Tally, TALLIED},
 };
-use std::env;
+use std::{env, fmt::Debug, str::FromStr};
 
 #[test]
 fn replay() {
     let Ok(line) = env::var(CASE_VARIABLE) else {
         return lines_read_back();
     };
-    let arrival: Arrival = line.parse().expect("a line that a difference printed");
-    println!("legs: {}", arrival.legs_as_text());
-    println!("{:#?}\n{:#?}", arrival.settings, arrival.market);
-    println!("the library: {:?}", unit::check_order(&arrival));
-    println!("by levels: {:?}", order::check(&arrival));
-    println!("by contracts: {:?}", order::check_by_contracts(&arrival));
-    Run::new("replay").compare(&arrival);
+    match line.split_whitespace().next() {
+        Some(QUOTE) => again::<Quote>(&line),
+        Some(TALLIED) => again::<Tallied>(&line),
+        _ => {
+            let arrival = read(&line);
+            println!("by contracts: {:?}", order::check_by_contracts(&arrival));
+            again::<Arrival>(&line);
+        }
+    }
+}
+
+fn read<C: FromStr<Err = String>>(line: &str) -> C {
+    line.parse().expect("a line that a difference printed")
+}
+
+fn again<C: Case + FromStr<Err = String>>(line: &str) {
+    let case: C = read(line);
+    println!("{}", case.described());
+    println!("the library: {:?}", case.library());
+    println!("the second implementation: {:?}", case.second());
+    Run::new("replay").compare(&case);
 }
 
 fn lines_read_back() {
-    let mut lines = 0;
     for example in examples::of_document_01() {
-        let line = example.arrival.to_string();
-        assert_eq!(line.parse(), Ok(example.arrival), "{line}");
-        lines += 1;
+        reads_back(&example.arrival);
     }
-    let empty = Arrival {
+    reads_back(&Arrival {
         price: i64::MIN,
         kind: u64::MAX,
         ..Arrival::limit(&[], 0)
-    };
-    assert_eq!(empty.to_string().parse(), Ok(empty));
-    assert_eq!(lines, 25);
+    });
+    let mut random = Random::new(1);
+    for _ in 0..10_000 {
+        let arrival = generate::arrival(&mut random);
+        reads_back(&arrival);
+        let tally = Tally::of_numbers([0; 4].map(|_| random.number()));
+        reads_back(&Tallied { arrival, tally });
+        reads_back(&generate::quote(&mut random));
+    }
+}
+
+fn reads_back<C: Case + Debug + PartialEq + FromStr<Err = String>>(case: &C) {
+    let line = case.to_string();
+    assert_eq!(read::<C>(&line), *case, "{line}");
 }

@@ -1,0 +1,116 @@
+//! What a run needs of a case: one call of an entry, which both implementations can be asked, and
+//! which can be written as one line of text.
+
+use crate::{
+    arrival::{Answer, Arrival},
+    order,
+    quote::{Quote, QuoteAnswer},
+    quote_check,
+    run::Seen,
+    tally::{self, Tallied, TalliedAnswer},
+    unit, ACCEPTED,
+};
+use std::fmt::{Debug, Display};
+
+pub trait Case: Display {
+    type Answer: Copy + Debug + PartialEq;
+
+    fn library(&self) -> Self::Answer;
+    fn second(&self) -> Self::Answer;
+
+    /// The case for a reader, every line with two spaces in front.
+    fn described(&self) -> String;
+
+    fn count(answer: &Self::Answer, seen: &mut Seen);
+}
+
+impl Case for Arrival {
+    type Answer = Answer;
+
+    fn library(&self) -> Answer {
+        unit::check_order(self)
+    }
+
+    fn second(&self) -> Answer {
+        order::check(self)
+    }
+
+    fn described(&self) -> String {
+        format!(
+            "  legs: {}
+  price {}, kind {}, stop {}, manual {}, opening {}
+  {:?}
+  {:?}",
+            self.legs_as_text(),
+            self.price,
+            self.kind,
+            self.stop,
+            self.manual,
+            self.opening,
+            self.settings,
+            self.market,
+        )
+    }
+
+    /// Classes, shapes and pairings are those of valid orders.
+    fn count(answer: &Answer, seen: &mut Seen) {
+        *seen.numbers.entry(answer.number).or_default() += 1;
+        if answer.number == ACCEPTED || answer.number >= 20 {
+            *seen.classes.entry(answer.class).or_default() += 1;
+            *seen.shapes.entry(answer.shape).or_default() += 1;
+            *seen.pairings.entry(answer.pairings).or_default() += 1;
+        }
+    }
+}
+
+impl Case for Tallied {
+    type Answer = TalliedAnswer;
+
+    fn library(&self) -> TalliedAnswer {
+        unit::check_order_tallied(self)
+    }
+
+    fn second(&self) -> TalliedAnswer {
+        tally::check(self)
+    }
+
+    fn described(&self) -> String {
+        format!("  {:?}\n{}", self.tally, self.arrival.described())
+    }
+
+    fn count(answer: &TalliedAnswer, seen: &mut Seen) {
+        Arrival::count(&answer.answer, seen);
+    }
+}
+
+impl Case for Quote {
+    type Answer = QuoteAnswer;
+
+    fn library(&self) -> QuoteAnswer {
+        unit::check_quote(self)
+    }
+
+    fn second(&self) -> QuoteAnswer {
+        quote_check::check(self)
+    }
+
+    fn described(&self) -> String {
+        format!(
+            "  quote of \"{}\"
+  bid {}, offer {}, resting {}
+  {:?}
+  {:?}",
+            self.symbol.escape_ascii(),
+            self.bid,
+            self.offer,
+            self.resting,
+            self.settings,
+            self.market,
+        )
+    }
+
+    fn count(answer: &QuoteAnswer, seen: &mut Seen) {
+        *seen.numbers.entry(answer.number).or_default() += 1;
+        *seen.cancels.entry(answer.cancel).or_default() += 1;
+    }
+}

@@ -1,0 +1,458 @@
+//! One below, at and above every limit that document 01 draws for quotes. Each case names its
+//! number, so both implementations are held to the rule and not only to each other.
+
+use super::{finish, hold, of_call, of_put, MARCH};
+use compare::{
+    arrival::{Market, Settings},
+    quote::Quote,
+    run::Run,
+    series::{call, put},
+};
+
+const LARGEST: u64 = 1_000_000_000;
+const EXTREMES: [u64; 4] = [1 << 32, 1 << 63, u64::MAX - 1, u64::MAX];
+
+/// A quote that no check rejects.
+fn plain() -> Quote {
+    of_call(1_000, 1_100)
+}
+
+#[test]
+fn symbols() {
+    let mut run = Run::new("symbols of quotes");
+    for length in 0..=64 {
+        let mut quote = plain();
+        quote.symbol.resize(length, b'0');
+        hold(&mut run, &quote, if length == 21 { 0 } else { 1 });
+    }
+    for place in 0..21 {
+        for byte in 0..=u8::MAX {
+            let mut quote = plain();
+            quote.symbol[place] = byte;
+            run.compare(&quote);
+        }
+    }
+    for (strike, number) in [(0, 4), (1, 20), (99_999_999, 0)] {
+        hold(&mut run, &of_put(strike, 1_000, 1_100), number);
+    }
+    for (expiry, number) in [(160_229, 0), (170_229, 4), (161_301, 4), (160_431, 4)] {
+        let quote = Quote::new(&call(expiry, 20_000).symbol(), 1, 2);
+        hold(&mut run, &quote, number);
+    }
+    finish(&run, &[0, 1, 4, 20], 21 * 256);
+}
+
+#[test]
+fn bids_and_offers() {
+    let mut run = Run::new("bids and offers");
+    let around = [0, 1, 2, 3, LARGEST - 1, LARGEST, LARGEST + 1];
+    let prices = [&around[..], &EXTREMES, &[(1 << 32) + 1]].concat();
+    for &bid in &prices {
+        for &offer in &prices {
+            let right = 1 <= bid && bid < offer && offer <= LARGEST;
+            hold(&mut run, &of_call(bid, offer), if right { 0 } else { 11 });
+        }
+    }
+    finish(&run, &[0, 11], 2 * 144);
+}
+
+#[test]
+fn settings() {
+    let mut run = Run::new("settings of quotes");
+    let limits = [
+        [(1, 1_000); 3].as_slice(),  // ticks and net increment
+        &[(2, 1_000); 4],            // ATDs
+        &[(0, 10_000)],              // percentage
+        &[(0, 600), (0, 1_000_000)], // presets, the minimum not above the maximum
+        &[(0, 1_000)],               // set ticks
+    ]
+    .concat();
+    let around = [0, 1, 2, 3, 599, 600, 601, 999, 1_000, 1_001, 9_999, 10_000];
+    let far = [10_001, 999_999, 1_000_000, 1_000_001, (1 << 32) + 5];
+    for (place, (least, most)) in (7..).zip(limits) {
+        for value in [&around[..], &far, &EXTREMES].concat() {
+            let right = (least..=most).contains(&value);
+            let number = if right { 0 } else { 9 };
+            hold(&mut run, &with_setting(plain(), place, value), number);
+        }
+    }
+    for (minimum, maximum, number) in [(601, 601, 0), (602, 601, 9), (1_000_001, 1_000_001, 9)] {
+        let quote = with_setting(with_setting(plain(), 15, minimum), 16, maximum);
+        hold(&mut run, &quote, number);
+    }
+    finish(&run, &[0, 9], 2 * 11 * 21);
+}
+
+fn with_setting(quote: Quote, place: usize, value: u64) -> Quote {
+    let mut numbers = quote.settings.numbers();
+    numbers[place] = value;
+    Quote {
+        settings: Settings::of_numbers(numbers),
+        ..quote
+    }
+}
+
+fn with_market(quote: Quote, place: usize, value: u64) -> Quote {
+    let mut numbers = quote.market.numbers();
+    numbers[place] = value;
+    Quote {
+        market: Market::of_numbers(numbers),
+        ..quote
+    }
+}
+
+#[test]
+fn markets() {
+    let mut run = Run::new("markets of quotes");
+    let around = [0, 1, 2, 3, LARGEST - 1, LARGEST, LARGEST + 1];
+    for place in 0..9 {
+        let most = match place {
+            0 => 2,
+            1 | 2 => u64::MAX,
+            _ => LARGEST,
+        };
+        for value in [&around[..], &EXTREMES, &[(1 << 32) + 1]].concat() {
+            let mut quote = plain();
+            quote.settings.switches = [0; 7];
+            let number = if value <= most { 0 } else { 10 };
+            hold(&mut run, &with_market(quote, place, value), number);
+        }
+    }
+    finish(&run, &[0, 10], 2 * 9 * 12);
+}
+
+/// A number, and what makes a quote get it.
+type Fault = (u64, fn(&mut Quote));
+
+/// Any faults together, on a quote that 20 and 26 reject: the lowest number is given.
+#[test]
+fn lowest_number_first() {
+    const FAULTS: [Fault; 7] = [
+        (1, |quote| quote.symbol.push(b'0')),
+        (4, |quote| quote.symbol[0] = b'x'),
+        (9, |quote| quote.settings.set_ticks = 1_001),
+        (10, |quote| quote.market.close = LARGEST + 1),
+        (11, |quote| quote.offer = quote.bid),
+        (20, |quote| quote.bid = 18_000),
+        (26, |quote| quote.market.nbo = 17_000),
+    ];
+    let mut run = Run::new("faults of quotes");
+    for chosen in 0..1_u32 << FAULTS.len() {
+        let mut quote = of_put(18_000, 17_000, 18_001);
+        let mut number = 0;
+        for (place, (fault, make)) in FAULTS.iter().enumerate().rev() {
+            if chosen >> place & 1 == 1 {
+                make(&mut quote);
+                number = *fault;
+            }
+        }
+        hold(&mut run, &quote, number);
+    }
+    finish(&run, &[0, 1, 4, 9, 10, 11, 20, 26], 2 * 128);
+}
+
+#[test]
+fn put_strike() {
+    let mut run = Run::new("20 of quotes");
+    for strike in [1, 2, 3, 18_000, 99_999_999] {
+        for bid in [strike - 1, strike, strike + 1]
+            .into_iter()
+            .filter(|&bid| bid > 0)
+        {
+            for offer in [bid + 1, LARGEST] {
+                // The underlying is nothing to a put.
+                for underlying in [0, 1, strike] {
+                    let mut quote = of_put(strike, bid, offer);
+                    quote.market.underlying = underlying;
+                    hold(&mut run, &quote, if bid >= strike { 20 } else { 0 });
+                    quote.settings.switches[0] = 0;
+                    hold(&mut run, &quote, 0);
+                }
+            }
+        }
+    }
+    finish(&run, &[0, 20], 300);
+}
+
+#[test]
+fn call_underlying() {
+    let mut run = Run::new("21 of quotes");
+    for underlying in [1, 2, 3, 10_000, LARGEST - 1] {
+        let bids = [underlying - 1, underlying, underlying + 1];
+        for bid in bids.into_iter().filter(|bid| (1..LARGEST).contains(bid)) {
+            for offer in [bid + 1, LARGEST] {
+                // The strike is nothing to a call.
+                for strike in [1, 20_000, 99_999_999] {
+                    let mut quote = Quote::new(&call(MARCH, strike).symbol(), bid, offer);
+                    hold(&mut run, &quote, 0);
+                    quote.market.underlying = underlying;
+                    hold(&mut run, &quote, if bid >= underlying { 21 } else { 0 });
+                    hold(&mut run, &with_setting(quote.clone(), 1, 0), 0);
+                    hold(&mut run, &with_setting(quote.clone(), 18, 1), 0); // adjusted
+                    hold(&mut run, &with_market(quote, 2, 1), 0); // extended hours
+                }
+            }
+        }
+    }
+    finish(&run, &[0, 21], 500);
+}
+
+/// NBB, NBO, own bid and own offer, and the highest bid and lowest offer that 26 accepts (0: any).
+/// Four set ticks of 10 below 3,000. Every price stands for itself, so no other can be meant.
+type Row = ([u64; 4], u64, u64);
+
+const ROWS: [Row; 22] = [
+    // The own prices are the best.
+    ([1_000, 1_200, 1_000, 1_200], 1_240, 960),
+    ([1_199, 1_200, 1_199, 1_200], 1_240, 1_159),
+    ([0, 1_200, 1_000, 1_200], 1_240, 0),
+    ([1_000, 0, 1_000, 1_200], 0, 960),
+    // One of them is, or none.
+    ([1_000, 1_200, 1_000, 1_300], 1_199, 960),
+    ([1_000, 1_200, 900, 1_200], 1_240, 1_001),
+    ([1_000, 1_200, 900, 1_300], 1_199, 1_001),
+    ([1_000, 1_200, 1_001, 1_199], 1_199, 1_001),
+    ([1_000, 1_200, 999, 1_201], 1_199, 1_001),
+    ([1_000, 1_200, 1_200, 1_000], 1_199, 1_001), // each equal to the other side's best
+    ([1_000, 1_200, 0, 0], 1_199, 1_001),
+    // One best price missing: nothing on that side, whatever the own price is.
+    ([0, 1_200, 900, 1_300], 1_199, 0),
+    ([1_000, 0, 900, 1_300], 0, 1_001),
+    ([0, 1_200, 0, 0], 1_199, 0),
+    // Locked, crossed, unavailable: the own prices alone.
+    ([1_200, 1_200, 1_000, 1_300], 1_340, 960),
+    ([1_200, 1_200, 1_200, 1_200], 1_240, 1_160),
+    ([1_201, 1_200, 1_000, 1_300], 1_340, 960),
+    ([1_201, 1_200, 0, 1_300], 1_340, 0),
+    ([1_201, 1_200, 1_000, 0], 0, 960),
+    ([1_200, 1_200, 0, 0], 0, 0),
+    ([0, 0, 1_000, 1_300], 1_340, 960),
+    ([0, 0, 0, 0], 0, 0),
+];
+
+fn market_of([nbb, nbo, own_bid, own_offer]: [u64; 4], quote: Quote) -> Quote {
+    let market = Market {
+        nbb,
+        nbo,
+        own_bid,
+        own_offer,
+        ..quote.market
+    };
+    Quote { market, ..quote }
+}
+
+/// Holds the highest bid and the lowest offer accepted, with the other side of the quote as far away
+/// as it can be, and as near.
+fn hold_row(run: &mut Run, quote: &Quote, highest_bid: u64, lowest_offer: u64) {
+    let at = |bid, offer| Quote {
+        bid,
+        offer,
+        ..quote.clone()
+    };
+    match highest_bid {
+        0 => hold(run, &at(LARGEST - 1, LARGEST), 0),
+        highest => {
+            hold(run, &at(highest, LARGEST), 0);
+            hold(run, &at(highest + 1, LARGEST), 26);
+            hold(run, &at(highest + 1, highest + 2), 26);
+            hold(run, &at(LARGEST - 1, LARGEST), 26);
+        }
+    }
+    match lowest_offer {
+        0 => hold(run, &at(1, 2), 0),
+        lowest => {
+            hold(run, &at(1, lowest), 0);
+            hold(run, &at(1, lowest - 1), 26);
+            hold(run, &at(lowest - 2, lowest - 1), 26);
+            hold(run, &at(1, 2), 26);
+        }
+    }
+}
+
+#[test]
+fn inversion() {
+    let mut run = Run::new("26");
+    for (prices, highest_bid, lowest_offer) in ROWS {
+        for (phase, open_elsewhere) in [(1, 0), (1, 1), (0, 1), (0, u64::MAX)] {
+            let mut quote = market_of(prices, plain());
+            (quote.market.phase, quote.market.open_elsewhere) = (phase, open_elsewhere);
+            hold_row(&mut run, &quote, highest_bid, lowest_offer);
+            // Neither the close nor extended hours are anything to 26, and nor is the type.
+            (quote.market.close, quote.market.extended_hours) = (1, 1);
+            quote.symbol = put(MARCH, 99_999_999).symbol().to_vec();
+            quote.settings.switches[0] = 0;
+            hold_row(&mut run, &quote, highest_bid, lowest_offer);
+        }
+        for (phase, open_elsewhere) in [(0, 0), (2, 0), (2, 1)] {
+            let mut quote = market_of(prices, plain());
+            (quote.market.phase, quote.market.open_elsewhere) = (phase, open_elsewhere);
+            hold_row(&mut run, &quote, 0, 0);
+        }
+        hold_row(
+            &mut run,
+            &with_setting(market_of(prices, plain()), 6, 0),
+            0,
+            0,
+        );
+    }
+    finish(&run, &[0, 26], 2_000);
+}
+
+/// The price that is compared with, set ticks, and the highest bid and lowest offer accepted, with
+/// ticks of 11 and 13.
+const TICKS: [(u64, u64, u64, u64); 14] = [
+    (2_998, 3, 3_031, 2_965),
+    (2_999, 3, 3_032, 2_966),
+    (3_000, 3, 3_039, 2_961), // also where the offer is below 3,000
+    (3_001, 3, 3_040, 2_962),
+    (2_999, 1, 3_010, 2_988), // also where the bid is above
+    (3_000, 1, 3_013, 2_987),
+    (2_999, 0, 2_999, 2_999),
+    (3_000, 0, 3_000, 3_000),
+    (2_999, 1_000, 13_999, 0),
+    (3_000, 1_000, 16_000, 0),
+    (35, 3, 68, 0), // 33 off leaves 2, the lowest offer that there is
+    (36, 3, 69, 3),
+    (10_000, 1_000, 23_000, 0),
+    (13_003, 1_000, 26_003, 3),
+];
+
+#[test]
+fn ticks() {
+    let mut run = Run::new("26 by tick");
+    for (price, set_ticks, highest_bid, lowest_offer) in TICKS {
+        let mut quote = plain();
+        quote.settings.set_ticks = set_ticks;
+        quote.settings.tick_below_3000 = 11;
+        quote.settings.tick_from_3000 = 13;
+        // The own price is the best, beside one that is missing or far away; or the NBBO is
+        // unavailable or locked. The far prices are further than a quote can go.
+        for prices in [
+            [0, price, 0, price],
+            [1, price, 0, price],
+            [0, 0, 0, price],
+            [7, 7, 0, price],
+        ] {
+            let quote = market_of(prices, quote.clone());
+            hold_row(&mut run, &quote, highest_bid, 0);
+        }
+        for prices in [
+            [price, 0, price, 0],
+            [price, LARGEST, price, 0],
+            [0, 0, price, 0],
+            [7, 7, price, 0],
+        ] {
+            let quote = market_of(prices, quote.clone());
+            hold_row(&mut run, &quote, 0, lowest_offer);
+        }
+    }
+    finish(&run, &[0, 26], 14 * 8 * 2 * 4);
+}
+
+/// The largest distance, and prices at the largest of all.
+#[test]
+fn largest_prices() {
+    let mut run = Run::new("26 at most");
+    let mut quote = plain();
+    quote.settings.set_ticks = 1_000;
+    quote.settings.tick_below_3000 = 1_000;
+    quote.settings.tick_from_3000 = 1_000;
+    let at_best = |best| market_of([best, 0, best, 0], quote.clone());
+    hold_row(&mut run, &at_best(LARGEST), 0, LARGEST - 1_000_000);
+    hold_row(&mut run, &at_best(1_000_002), 0, 0);
+    hold_row(&mut run, &at_best(1_000_003), 0, 3);
+    let at_best = |best| market_of([0, best, 0, best], quote.clone());
+    hold_row(&mut run, &at_best(LARGEST), 0, 0);
+    hold_row(&mut run, &at_best(1), 1_000_001, 0);
+    let other = |best| market_of([0, best, 0, best - 1], quote.clone());
+    hold_row(&mut run, &other(LARGEST - 1), LARGEST - 2, 0);
+    finish(&run, &[0, 26], 40);
+}
+
+/// Quotes that several checks reject: the lowest that is switched on is given.
+#[test]
+fn switches() {
+    let mut run = Run::new("switches of quotes");
+    let both = [1_000, 1_200, 1_000, 1_200];
+    let mut far_call = market_of(both, of_call(20_000, 20_001));
+    far_call.market.underlying = 10_000;
+    let low_offer = market_of(both, of_call(900, 959));
+    let quotes: [(Quote, &[u64]); 4] = [
+        (market_of(both, of_put(18_000, 18_000, 18_001)), &[20, 26]),
+        (far_call, &[21, 26]),
+        (low_offer, &[26]),
+        (market_of(both, plain()), &[]),
+    ];
+    for (quote, rejecting) in quotes {
+        for switches in 0..1 << 7 {
+            let on = |number: u64| switches >> (number - 20) & 1;
+            let mut quote = quote.clone();
+            quote.settings.switches = [20, 21, 22, 23, 24, 25, 26].map(on);
+            let first = rejecting.iter().copied().find(|&number| on(number) == 1);
+            hold(&mut run, &quote, first.unwrap_or(0));
+        }
+    }
+    finish(&run, &[0, 20, 21, 26], 2 * 4 * 128);
+}
+
+/// A quote whose answer depends on one number, and where that number stands.
+type Flag = (Quote, fn(&mut Quote) -> &mut u64);
+
+fn flags() -> [Flag; 7] {
+    let at_strike = of_put(18_000, 18_000, 18_001);
+    let mut at_underlying = of_call(10_000, 10_001);
+    at_underlying.market.underlying = 10_000;
+    let inverting = market_of([0, 900, 0, 0], plain());
+    let mut before_opening = inverting.clone();
+    before_opening.market.phase = 0;
+    [
+        (at_strike.clone(), |quote| &mut quote.resting),
+        (at_strike, |quote| &mut quote.settings.switches[0]),
+        (at_underlying.clone(), |quote| {
+            &mut quote.settings.switches[1]
+        }),
+        (inverting, |quote| &mut quote.settings.switches[6]),
+        (at_underlying.clone(), |quote| &mut quote.settings.adjusted),
+        (at_underlying, |quote| &mut quote.market.extended_hours),
+        (before_opening, |quote| &mut quote.market.open_elsewhere),
+    ]
+}
+
+#[test]
+fn any_other_value_is_yes() {
+    let mut run = Run::new("flags of quotes");
+    for (mut quote, flag) in flags() {
+        *flag(&mut quote) = 0;
+        let no = run.compare(&quote);
+        *flag(&mut quote) = 1;
+        let yes = run.compare(&quote);
+        assert_ne!(no, yes, "{quote}");
+        let small = [2, 255, 256, 1 << 16, 1 << 31];
+        for value in [&small[..], &EXTREMES, &[(1 << 32) + 1]].concat() {
+            *flag(&mut quote) = value;
+            assert_eq!(run.compare(&quote), yes, "{quote}");
+        }
+    }
+    finish(&run, &[0, 20, 21, 26], 7 * 12);
+}
+
+/// What only orders read changes nothing, as long as it is within its limits.
+#[test]
+fn what_only_orders_read_changes_nothing() {
+    const ONLY_ORDERS: [usize; 13] = [2, 3, 4, 5, 9, 10, 11, 12, 13, 14, 15, 16, 19];
+    let mut run = Run::new("only orders");
+    for (quote, _) in flags() {
+        let answer = run.compare(&quote);
+        for place in ONLY_ORDERS {
+            for value in [2, 600] {
+                let other = with_setting(quote.clone(), place, value);
+                assert_eq!(run.compare(&other), answer, "{other}");
+            }
+        }
+        for close in [1, 900, LARGEST] {
+            let other = with_market(quote.clone(), 8, close);
+            assert_eq!(run.compare(&other), answer, "{other}");
+        }
+    }
+    finish(&run, &[0, 20, 21, 26], 7 * 30);
+}

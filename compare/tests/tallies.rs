@@ -1,0 +1,339 @@
+//! Tallied checks put to both implementations, one after the other: number, class, shape, pairings
+//! and the whole tally after each. At the end of a list the tally is held to what the test counted
+//! by itself, from the answers of the check without a tally.
+
+use compare::{
+    arrival::{Answer, Arrival},
+    generate::arrival,
+    order,
+    random::Random,
+    run::{Run, NUMBERS},
+    tally::{self, Tallied, TalliedAnswer, Tally},
+    unit,
+};
+use std::collections::BTreeMap;
+
+const LIMIT: u64 = 1_000_000;
+
+const REFUSED: Answer = Answer {
+    number: 12,
+    class: 0,
+    shape: 0,
+    pairings: 0,
+};
+
+/// A list of tallied checks from some tally that adds up, and what was counted beside it.
+struct List {
+    start: Tally,
+    tally: Tally,
+    numbers: BTreeMap<u64, u64>,
+    refused_by_12: u64,
+}
+
+impl List {
+    fn from(start: Tally) -> Self {
+        List {
+            start,
+            tally: start,
+            numbers: BTreeMap::new(),
+            refused_by_12: 0,
+        }
+    }
+
+    /// One more check, held to the second implementation and to the check without a tally.
+    fn put(&mut self, run: &mut Run, arrival: Arrival) {
+        let plain = unit::check_order(&arrival);
+        let tally = self.tally;
+        let answer = run.compare(&Tallied { arrival, tally });
+        self.count(plain, answer);
+    }
+
+    fn count(&mut self, plain: Answer, answer: TalliedAnswer) {
+        let counted: u64 = self.numbers.values().sum();
+        if self.start.seen + counted < LIMIT {
+            assert_eq!(answer.answer, plain);
+            *self.numbers.entry(plain.number).or_default() += 1;
+        } else {
+            assert_eq!(answer.answer, REFUSED);
+            self.refused_by_12 += 1;
+        }
+        self.tally = answer.tally;
+    }
+
+    /// Holds the tally to what was counted.
+    fn finish(&self) {
+        let given = |numbers: &[u64]| -> u64 {
+            let times = |number| self.numbers.get(number).copied().unwrap_or(0);
+            numbers.iter().map(times).sum()
+        };
+        let all: u64 = self.numbers.values().sum();
+        let expected = Tally {
+            seen: self.start.seen + all,
+            refused: self.start.refused + given(&[1, 3, 4, 5, 6, 7, 8, 9, 10]),
+            accepted: self.start.accepted + given(&[0]),
+            rejected: self.start.rejected + given(&[20, 21, 22, 23, 24, 25]),
+        };
+        assert_eq!(self.tally, expected, "{:?}", self.numbers);
+    }
+}
+
+/// Lists of up to 1,500 checks from a fresh tally. A check with a tally that is broken, now and
+/// then, is no part of the list.
+#[test]
+fn lists_from_a_fresh_tally() {
+    let mut run = Run::new("tallied lists");
+    let mut strays = 0;
+    let mut lengths = 0;
+    for _ in 0..300 {
+        let mut list = List::from(Tally::default());
+        let length = run.random.index(1_501);
+        for _ in 0..length {
+            let arrival = arrival(&mut run.random);
+            if run.random.index(8) == 0 {
+                put_broken(&mut run, &arrival, list.tally);
+                strays += 1;
+            }
+            list.put(&mut run, arrival);
+        }
+        list.finish();
+        lengths += length;
+    }
+    run.report();
+    println!("tallied lists: {strays} checks with a broken tally among {lengths}");
+    run.require(&NUMBERS, 100);
+    assert_eq!(run.given(12), strays);
+    assert!(lengths > 150_000 && strays > 15_000);
+}
+
+/// The same arrival with the list's own tally, but for one number of it.
+fn put_broken(run: &mut Run, arrival: &Arrival, tally: Tally) {
+    let mut numbers = tally.numbers();
+    let place = run.random.index(4);
+    let by = *run.random.pick(&[1, 2, LIMIT, 1 << 32, 1 << 63, u64::MAX]);
+    numbers[place] = numbers[place].wrapping_add(by);
+    let tallied = Tallied {
+        arrival: arrival.clone(),
+        tally: Tally::of_numbers(numbers),
+    };
+    hold_broken(run, &tallied);
+}
+
+fn hold_broken(run: &mut Run, tallied: &Tallied) {
+    let expected = TalliedAnswer {
+        answer: REFUSED,
+        tally: tallied.tally,
+    };
+    assert_eq!(run.compare(tallied), expected, "{tallied}");
+}
+
+/// Lists that begin close to the limit and go on beyond it.
+#[test]
+fn lists_across_the_limit() {
+    let mut run = Run::new("across the limit");
+    for round in 0..1_000 {
+        let seen = LIMIT - 10 + round % 11; // to the limit itself
+        let mut list = List::from(adding_up(&mut run.random, seen));
+        for _ in 0..20 {
+            let arrival = arrival(&mut run.random);
+            list.put(&mut run, arrival);
+        }
+        list.finish();
+        assert_eq!(list.tally.seen, LIMIT);
+        assert_eq!(list.refused_by_12, 20 - (LIMIT - seen));
+    }
+    run.report();
+    assert_eq!(run.comparisons, 20_000);
+    assert!(run.given(12) > 10_000 && run.given(0) > 1_000);
+}
+
+/// A tally that has seen so many, divided at random, at times among two kinds or one.
+fn adding_up(random: &mut Random, seen: u64) -> Tally {
+    let part = |random: &mut Random, whole: u64| match random.index(4) {
+        0 => 0,
+        1 => whole,
+        _ if whole == u64::MAX => random.number(),
+        _ => random.between(0, whole),
+    };
+    let one = part(random, seen);
+    let other = part(random, seen - one);
+    let mut kinds = [one, other, seen - one - other];
+    let first = random.index(3);
+    kinds.rotate_left(first);
+    let [refused, accepted, rejected] = kinds;
+    Tally {
+        seen,
+        refused,
+        accepted,
+        rejected,
+    }
+}
+
+/// A kind of tally: whether 12 refuses it, and one of the kind.
+type Kind = (&'static str, bool, fn(&mut Random) -> Tally);
+
+const KINDS: [Kind; 20] = [
+    ("fresh", false, |_| Tally::default()),
+    ("adds up", false, |random| any_adding_up(random, 0)),
+    ("one left", false, |random| adding_up(random, LIMIT - 1)),
+    ("full", true, |random| adding_up(random, LIMIT)),
+    ("above", true, |random| adding_up(random, LIMIT + 1)),
+    ("huge", true, |random| {
+        let seen = random.between(LIMIT, u64::MAX);
+        adding_up(random, seen)
+    }),
+    ("largest", true, |random| adding_up(random, u64::MAX)),
+    ("equal in 32 bits to a small one", true, |random| {
+        let small = random.between(0, LIMIT - 1);
+        adding_up(random, (1 << 32) + small)
+    }),
+    ("seen one too many", true, |random| {
+        let mut tally = any_adding_up(random, 0);
+        tally.seen += 1;
+        tally
+    }),
+    ("seen one too few", true, |random| {
+        let mut tally = any_adding_up(random, 1);
+        tally.seen -= 1;
+        tally
+    }),
+    ("a kind by one too many", true, |random| {
+        let tally = any_adding_up(random, 0);
+        with_kind_changed(random, tally, 1)
+    }),
+    ("a kind by 2^32 too many", true, |random| {
+        let tally = any_adding_up(random, 0);
+        with_kind_changed(random, tally, 1 << 32)
+    }),
+    ("two kinds by 2^63 too many", true, |random| {
+        let mut tally = any_adding_up(random, 0);
+        tally.refused += 1 << 63;
+        tally.rejected += 1 << 63;
+        tally
+    }),
+    ("right modulo 2^64", true, right_modulo_the_word),
+    ("right modulo 2^64, around twice", true, |random| {
+        let seen = random.between(0, LIMIT - 1);
+        let mut kinds = [u64::MAX, u64::MAX, seen + 2];
+        let first = random.index(3);
+        kinds.rotate_left(first);
+        let [refused, accepted, rejected] = kinds;
+        Tally::of_numbers([seen, refused, accepted, rejected])
+    }),
+    ("a kind left out of seen", true, |random| {
+        let (tally, left_out) = (any_adding_up(random, 0), random.between(1, 1_000));
+        with_kind_changed(random, tally, left_out)
+    }),
+    ("seen alone", true, |random| {
+        Tally::of_numbers([random.between(1, LIMIT - 1), 0, 0, 0])
+    }),
+    ("all but seen", true, |random| Tally {
+        seen: 0,
+        ..any_adding_up(random, 1)
+    }),
+    ("any small numbers", true, |random| loop {
+        let numbers = [0; 4].map(|_| random.between(0, 999_999));
+        if numbers[0] != numbers[1] + numbers[2] + numbers[3] {
+            return Tally::of_numbers(numbers);
+        }
+    }),
+    ("any numbers", true, |random| {
+        // Above a million at least: shifted by no more than 40.
+        let seen = (random.number() | 1 << 63) >> random.index(41);
+        let [refused, accepted, rejected] = [0; 3].map(|_| random.number() >> random.index(64));
+        Tally::of_numbers([seen, refused, accepted, rejected])
+    }),
+];
+
+/// Below the limit.
+fn any_adding_up(random: &mut Random, least: u64) -> Tally {
+    let most = *random.pick(&[3, 1_000, LIMIT - 1]);
+    let seen = random.between(least, most);
+    adding_up(random, seen)
+}
+
+fn with_kind_changed(random: &mut Random, tally: Tally, by: u64) -> Tally {
+    let mut numbers = tally.numbers();
+    numbers[1 + random.index(3)] += by;
+    Tally::of_numbers(numbers)
+}
+
+/// The sum of the three kinds goes beyond the word, and what is left of it is right.
+fn right_modulo_the_word(random: &mut Random) -> Tally {
+    let seen = random.between(0, LIMIT - 1);
+    let one = random.between(LIMIT, u64::MAX);
+    let other = random.number() >> random.index(64);
+    let last = seen.wrapping_sub(one).wrapping_sub(other);
+    let mut kinds = [one, other, last];
+    let first = random.index(3);
+    kinds.rotate_left(first);
+    let [refused, accepted, rejected] = kinds;
+    Tally::of_numbers([seen, refused, accepted, rejected])
+}
+
+/// Tallies of every kind, with arrivals of every kind: 12 comes before every other number.
+#[test]
+fn tallies_of_every_kind() {
+    let mut run = Run::new("tallies");
+    for _ in 0..5_000 {
+        for (name, wrong, make) in KINDS {
+            let tallied = Tallied {
+                arrival: arrival(&mut run.random),
+                tally: make(&mut run.random),
+            };
+            if wrong {
+                hold_broken(&mut run, &tallied);
+                continue;
+            }
+            let mut list = List::from(tallied.tally);
+            list.put(&mut run, tallied.arrival);
+            list.finish();
+            assert_eq!(list.refused_by_12, 0, "{name}");
+        }
+    }
+    run.report();
+    let wrong = KINDS.iter().filter(|(_, wrong, _)| *wrong).count() as u64;
+    assert_eq!(run.comparisons, 5_000 * KINDS.len() as u64);
+    assert_eq!(run.given(12), 5_000 * wrong);
+}
+
+/// One list of a million checks from a fresh tally, and beyond. The arrivals are few, so the second
+/// implementation is asked for each of them once.
+#[test]
+fn one_list_to_the_limit() {
+    const BEYOND: u64 = 1_000;
+    let mut run = Run::new("to the limit");
+    let mut pool = one_of_each_number(&mut run.random);
+    let mut list = List::from(Tally::default());
+    for _ in 0..LIMIT + BEYOND {
+        let place = run.random.index(pool.len());
+        let (tallied, plain) = &mut pool[place];
+        tallied.tally = list.tally;
+        let expected = tally::add(list.tally, *plain);
+        let answer = run.expect(tallied, expected, "the second implementation");
+        list.count(*plain, answer);
+    }
+    list.finish();
+    run.report();
+    println!("to the limit: {:?}", list.tally);
+    assert_eq!((list.tally.seen, list.refused_by_12), (LIMIT, BEYOND));
+    for number in NUMBERS {
+        assert!(run.given(number) > 10_000, "number {number}");
+    }
+}
+
+/// For each number an arrival that gets it, the shortest of many, with its answer.
+fn one_of_each_number(random: &mut Random) -> Vec<(Tallied, Answer)> {
+    let mut shortest: BTreeMap<u64, (Arrival, Answer)> = BTreeMap::new();
+    for _ in 0..20_000 {
+        let arrival = arrival(random);
+        let answer = order::check(&arrival);
+        let known = shortest.get(&answer.number);
+        if known.is_none_or(|(known, _)| arrival.symbols.len() < known.symbols.len()) {
+            shortest.insert(answer.number, (arrival, answer));
+        }
+    }
+    assert_eq!(shortest.len(), NUMBERS.len());
+    let tally = Tally::default();
+    let tallied = |(arrival, answer)| (Tallied { arrival, tally }, answer);
+    shortest.into_values().map(tallied).collect()
+}
