@@ -1,3 +1,3 @@
 // The checks of an order against market and settings.
-pub mod price;
+pub mod paid;
 pub mod reference;

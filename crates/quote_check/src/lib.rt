@@ -1,7 +1,7 @@
 // The quote check.
 use crate::refusal::read_quote;
-use checks::price::call_test;
-use checks::price::put_test;
+use checks::paid::call_test;
+use checks::paid::put_test;
 use choice::both;
 use choice::pick;
 use inversion::quote_inversion;

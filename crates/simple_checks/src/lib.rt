@@ -1,6 +1,6 @@
 // The checks of a simple order: 20, 21 and 25, and the first of them that applies.
-use checks::price::call_test;
-use checks::price::put_test;
+use checks::paid::call_test;
+use checks::paid::put_test;
 use checks::reference::acceptable_ticks;
 use checks::reference::reference;
 use checks::reference::tick_at;

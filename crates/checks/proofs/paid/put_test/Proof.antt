@@ -1,7 +1,7 @@
 -- The test is the definition's, choice for choice.
 use Rattle.rules.specs.Checks.{putTest}
-use Rattle.checks.proofs.price.put_test.Statement.{statement}
-use Rattle.checks.proofs.price.put_test.Tie as tie
+use Rattle.checks.proofs.paid.put_test.Statement.{statement}
+use Rattle.checks.proofs.paid.put_test.Tie as tie
 
 returns : tie.Need-returns
 unfolding putTest

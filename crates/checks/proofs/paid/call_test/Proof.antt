@@ -9,8 +9,8 @@ use Rattle.rules.specs.declared.Settings.{Settings}
 use Rattle.rules.specs.declared.Market.{Market}
 use Rattle.rules.specs.Lists.{every}
 use Rattle.rules.specs.Checks.{callTest}
-use Rattle.checks.proofs.price.call_test.Statement.{statement}
-use Rattle.checks.proofs.price.call_test.Tie as tie
+use Rattle.checks.proofs.paid.call_test.Statement.{statement}
+use Rattle.checks.proofs.paid.call_test.Tie as tie
 
 -- the last two are asked for their absence
 grouped : (call known above plain usual : Bool) → call && ((known && above) && (plain && usual)) ≡ every (call ∷ known ∷ above ∷ not (not plain) ∷ not (not usual) ∷ [])
