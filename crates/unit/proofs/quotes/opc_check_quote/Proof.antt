@@ -7,8 +7,8 @@ use Rattle.rules.specs.declared.Settings.{Settings}
 use Rattle.rules.specs.declared.Market.{Market}
 use Rattle.rules.specs.declared.QuoteAnswer.{QuoteAnswer}
 use Rattle.rules.specs.Quote.{checkQuote}
-use Rattle.unit.proofs.quote.opc_check_quote.Statement.{statement}
-use Rattle.unit.proofs.quote.opc_check_quote.Tie as tie
+use Rattle.unit.proofs.quotes.opc_check_quote.Statement.{statement}
+use Rattle.unit.proofs.quotes.opc_check_quote.Tie as tie
 
 same-check : (symbol : List ℕ) (bid offer : Mills) (resting : ℕ) {st st′ : Settings} {m m′ : Market} → st ≡ st′ → m ≡ m′ → checkQuote st m symbol bid offer resting ≡ checkQuote st′ m′ symbol bid offer resting
 same-check symbol bid offer resting p q = λ i. checkQuote (p i) (q i) symbol bid offer resting

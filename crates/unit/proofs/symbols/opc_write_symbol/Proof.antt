@@ -4,8 +4,8 @@ use mathlib.Core.Path.{_≡_, sym, _∙_}
 use Prim.Native.Nat.{ℕ}
 use Rattle.rules.specs.Symbol.{SymbolWritten, writeSymbol}
 use Rattle.rules.proofs.Symbols.{handed-symbol, handed-nothing}
-use Rattle.unit.proofs.opc_write_symbol.Statement.{statement}
-use Rattle.unit.proofs.opc_write_symbol.Tie as tie
+use Rattle.unit.proofs.symbols.opc_write_symbol.Statement.{statement}
+use Rattle.unit.proofs.symbols.opc_write_symbol.Tie as tie
 
 -- field by field
 written : {number handed : ℕ} {buffer : _} (w : SymbolWritten) → number ≡ w .number → w .handed ≡ handed → buffer ≡ w .buffer → record { number = number; handed = handed; buffer = buffer } ≡ w

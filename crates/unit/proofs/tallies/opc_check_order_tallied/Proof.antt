@@ -5,8 +5,8 @@ use mir.ValLaws.{toZ-ofZ}
 use Rattle.rules.specs.Order.{termsOf}
 use Rattle.rules.specs.Tally.{tallied}
 use Rattle.unit.proofs.Laws.{same-check, tallied-fields}
-use Rattle.unit.proofs.opc_check_order_tallied.Statement.{statement}
-use Rattle.unit.proofs.opc_check_order_tallied.Tie as tie
+use Rattle.unit.proofs.tallies.opc_check_order_tallied.Statement.{statement}
+use Rattle.unit.proofs.tallies.opc_check_order_tallied.Tie as tie
 
 returns : tie.Need-returns
 returns c =

@@ -5,8 +5,8 @@ use mir.Syntax.{w64}
 use mir.ValLaws.{toZ-ofZ}
 use Rattle.rules.specs.Order.{termsOf}
 use Rattle.unit.proofs.Laws.{same-check, fields}
-use Rattle.unit.proofs.opc_check_order.Statement.{statement}
-use Rattle.unit.proofs.opc_check_order.Tie as tie
+use Rattle.unit.proofs.orders.opc_check_order.Statement.{statement}
+use Rattle.unit.proofs.orders.opc_check_order.Tie as tie
 
 returns : tie.Need-returns
 returns c =
