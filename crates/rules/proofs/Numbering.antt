@@ -11,8 +11,11 @@ use Rattle.rules.proofs.Tests.{and-both}
 use Rattle.rules.specs.declared.RawLeg.{RawLeg}
 use Rattle.rules.specs.declared.Terms.{Terms}
 use Rattle.rules.specs.declared.Leg.{Leg}
+use Rattle.rules.specs.declared.Mills.{Mills}
+use Rattle.rules.specs.declared.Series.{Series}
 use Rattle.rules.specs.declared.Settings.{Settings}
 use Rattle.rules.specs.declared.Market.{Market}
+use Rattle.rules.specs.Quote.{quoteRefusals, quoteRefusal, quoteRejections, quoteRejection}
 use Rattle.rules.specs.Numbers.{firstOf, refusals, refusal, rejections, rejection}
 
 pub first-of : (P : ℕ → Type 0) (es : List (Bool × ℕ)) → P 0 → All (λ e. e .0 ≡ true → P (e .1)) es → P (firstOf es)
@@ -77,3 +80,11 @@ lowest-refusal st m t n rs = lowest 0 (refusals st m t n rs) refl
 pub lowest-rejection : (st : Settings) (m : Market) (t : Terms) (us : List Leg) (class : ℕ) → All (λ e. e .0 ≡ true → rejection st m t us class ≤ e .1) (rejections st m t us class)
 unfolding rejection
 lowest-rejection st m t us class = lowest 0 (rejections st m t us class) refl
+
+pub lowest-quote-refusal : (st : Settings) (m : Market) (symbol : List ℕ) (bid offer : Mills) → All (λ e. e .0 ≡ true → quoteRefusal st m symbol bid offer ≤ e .1) (quoteRefusals st m symbol bid offer)
+unfolding quoteRefusal
+lowest-quote-refusal st m symbol bid offer = lowest 0 (quoteRefusals st m symbol bid offer) refl
+
+pub lowest-quote-rejection : (st : Settings) (m : Market) (s : Series) (bid offer : Mills) → All (λ e. e .0 ≡ true → quoteRejection st m s bid offer ≤ e .1) (quoteRejections st m s bid offer)
+unfolding quoteRejection
+lowest-quote-rejection st m s bid offer = lowest 0 (quoteRejections st m s bid offer) refl
