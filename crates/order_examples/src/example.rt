@@ -14,6 +14,7 @@ ghost use Prim.Native.Nat.{_+_, _%_, _^_, _≤_};
 ghost use lib.ListN.{length};
 ghost use Rattle.rules.specs.Order.{word};
 ghost use Rattle.rules.specs.Examples.{exampleSettings};
+ghost use Rattle.rules.specs.Demand1.{OrderAnswers};
 
 // What an example gives beside its legs and its price.
 pub enum Given {
@@ -183,6 +184,7 @@ fn nbo(g: Given) -> u64 {
 // A limit order with no flags.
 pub fn answer_to(g: Given, l: Legs, price: i64) -> OrderAnswer
     requires { ⌜ l .len ≤ 4 ⌝ }
+    ensures { λ r. ⌜ OrderAnswers r ⌝ }
 {
     let symbols = symbols_of(l);
     let counts = counts_of(l);

@@ -3,8 +3,12 @@ use borrow.Author.Needs.{needs}
 use mathlib.Core.Path.{sym}
 use native.Mathlib.Omega.{arith}
 use lib.Seq.{length-take-le}
+use Rattle.rules.proofs.Demand1.{order-check}
 use Rattle.order_examples.proofs.example.answer_to.Statement.{statement}
 use Rattle.order_examples.proofs.example.answer_to.Tie as tie
+
+returns : tie.Need-returns
+returns c = rw (c .check-slices .ensures) (order-check .slices _ _ _ _ _)
 
 pub answer-to-spec : {M : Type 1} → statement M
 answer-to-spec =
@@ -25,4 +29,4 @@ answer-to-spec =
     (λ c κs. tt)
     (λ c κs. tt)
     (λ c κs. tt)
-    (λ c. tt))
+    returns)
