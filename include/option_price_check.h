@@ -29,7 +29,8 @@ extern "C" {
 enum opc_number {
     /* Not refused, and not rejected by a check. */
     OPC_ACCEPTED = 0,
-    /* The host: the bytes to read are not 21, or for an order not 21 for each 8 bytes of counts. */
+    /* The host: the bytes to read are not 21, or for an order not 21 for each
+     * count, or the counts are not 8 bytes each. */
     OPC_NOT_21_BYTES = 1,
     /* The host: there are fewer than 21 bytes to write in. */
     OPC_SHORT_BUFFER = 2,
@@ -192,7 +193,7 @@ struct opc_settings {
     uint64_t check_26;        /* switch of the quote inversion check; no order is tested by it */
     uint64_t tick_below_3000; /* the tick at a reference below 3000; 1 to 1000 mills */
     uint64_t tick_from_3000;  /* the tick at a reference of 3000 or more; 1 to 1000 mills */
-    uint64_t net_increment;   /* the least premium of a leg in check 22; 1 to 1000 mills */
+    uint64_t net_increment;   /* the least premium of a contract in check 22; 1 to 1000 mills */
     uint64_t atd_below_1000;  /* acceptable tick distance at a reference below 1000; 2 to 1000 */
     uint64_t atd_to_2999;     /* the same at 1000 to 2999; 2 to 1000 ticks */
     uint64_t atd_to_9999;     /* the same at 3000 to 9999; 2 to 1000 ticks */

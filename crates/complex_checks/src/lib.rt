@@ -76,7 +76,7 @@ fn buy_buy(st: Settings, t: Terms, us: Legs) -> bool
     false
 }
 
-// Check 23, of two or more legs, which themselves it does not ask.
+// Check 23, of an order of two or more legs: only its class and its terms decide.
 fn debit_credit(t: Terms, class: u64) -> bool
     ensures { λ r. ⌜ ((us : List Leg) → isComplex us ≡ true → r ≡ debitCredit t us class) ⌝ }
 {

@@ -35,7 +35,7 @@ fn divided(x: Leg, divisor: u64) -> Leg
     }
 }
 
-// The legs with their unit counts. A leg without a contract has none, so every leg has one.
+// The legs with their unit counts. Every leg must have contracts, so that the divisor is not 0.
 pub fn units(l: Legs) -> Legs
     requires { ⌜ (l .len ≤ 16) × All (λ x. 0 < x .size) (legsIn l) ⌝ }
     ensures { λ r. ⌜ (legsIn r ≡ units (legsIn l)) × (r .len ≡ l .len) ⌝ }

@@ -149,7 +149,7 @@ quote-check st m symbol bid offer resting = quote-answers st m symbol bid offer 
 
 pub order-answers : (c : Call) → OrderAnswers (orderAnswer c)
 order-answers c =
-    let a = c .alike in
+    let a = c .inputs in
     order-check .slices (a .settings) (a .market) (termsOf (a .price) (a .kind) (a .stop) (a .manual) (a .opening)) (c .symbols) (c .counts)
 
 tallied-answers : (t : Tally) (a : OrderAnswer) → OrderAnswers a → (b : Bool) → isSpent t ≡ b → TalliedAnswers t (tallied t a)

@@ -6,7 +6,7 @@ use Prim.Native.Nat.{ℕ, zero, suc, _+_, _/_, _%_, _*_, _≤_, _<_}
 use native.Mathlib.Omega.{arith}
 use lib.ListN.{length}
 use lib.Dec.{leb, eqb}
-use lib.IntN.{ℤ, pos, _-ℤ_}
+use lib.IntN.{ℤ, pos, negsuc, _-ℤ_}
 use lib.Signed.{_≤ℤ_}
 use borrow.Author.Tests.{le-leb, leb-true}
 use Rattle.rules.specs.declared.RawLeg.{RawLeg}
@@ -18,12 +18,12 @@ use Rattle.rules.specs.declared.Settings.{Settings}
 use Rattle.rules.specs.declared.Market.{Market}
 use Rattle.rules.specs.Limits.{within}
 use Rattle.rules.specs.Lists.{All, Perm, any}
-use Rattle.rules.specs.Order.{isYes, Lent, lentLegs, recordLegs, priceOf, termsOf, legOf, legsOf, units, netWorth}
+use Rattle.rules.specs.Order.{isYes, Lent, lentLegs, recordLegs, priceOf, signedPrice, termsOf, legOf, legsOf, units, netWorth}
 use Rattle.rules.specs.Pairing.{byStrike, bothWalks}
 use Rattle.rules.specs.Class.{classOf}
 use Rattle.rules.specs.Fair.{Has, Fair}
-use Rattle.rules.specs.Numbers.{firstOf, isBadCount, refusal, rejection, judged, refused, outcome, checkLegs, checkOrder}
-use Rattle.rules.specs.Demand3.{Alike, IsWhole, IsValid, NotRejected, arrival, orderLegs, Arrivals, Demand3}
+use Rattle.rules.specs.Numbers.{firstOf, isBadCount, refusal, rejection, judged, refused, outcome, checkLegs, checkOrder, Inputs}
+use Rattle.rules.specs.Demand3.{IsWhole, IsValid, NotRejected, arrival, orderLegs, Arrivals, Demand3}
 use Rattle.rules.proofs.Tests.{and-both, or-neither, within-both}
 use Rattle.rules.proofs.Sorting.{all-perm, perm-sym, map-perm, length-perm}
 use Rattle.rules.proofs.Numbering.{first-of, none-applies}
@@ -107,9 +107,9 @@ module _ (st : Settings) (m : Market) (t : Terms) (ls : List Leg) (big : Sized l
   pub credit-sign : class ≡ 2 → netWorth v ls ≤ℤ pos 0
   credit-sign e = rw net-is (down-sign (worth v true us) (worth v false us) (credit-order e))
 
-  pub not-rejected : (z : ℤ) → t .price ≡ priceOf z → z ≡ netWorth v ls → 20 ≤ rejection st m t us class → rejection st m t us class ≤ 24 → ⊥
+  pub not-rejected : signedPrice (t .price) ≡ netWorth v ls → 20 ≤ rejection st m t us class → rejection st m t us class ≤ 24 → ⊥
   unfolding rejection
-  not-rejected z p e =
+  not-rejected e =
       first-of (λ k. 20 ≤ k → k ≤ 24 → ⊥) _ (λ a b. omega arith) (
         (λ f. absurd (sound20 st m t ls v fair (byStrike ls) has full priced (and-both (isYes (st .check20)) _ f .1))),
         (
@@ -128,10 +128,10 @@ module _ (st : Settings) (m : Market) (t : Terms) (ls : List Leg) (big : Sized l
       )
     where
       priced : PriceIs (t .price) (worth v true us) (worth v false us)
-      priced = rw (p ∙ ap priceOf (e ∙ net-is)) (price-is (worth v true us) (worth v false us))
+      priced = price-is (t .price) (worth v true us) (worth v false us) (e ∙ net-is)
 
 -- the order check on legs in two sequences
-module _ (st : Settings) (m : Market) (t : Terms) (n : ℕ) (price : ℤ) (priced : t .price ≡ priceOf price) (rs qs : List RawLeg) (p : Perm rs qs) where
+module _ (st : Settings) (m : Market) (t : Terms) (n : ℕ) (price : ℤ) (priced : signedPrice (t .price) ≡ price) (rs qs : List RawLeg) (p : Perm rs qs) where
   abbrev ls : List Leg
   ls = legsOf rs
 
@@ -153,7 +153,7 @@ module _ (st : Settings) (m : Market) (t : Terms) (n : ℕ) (price : ℤ) (price
 
     sound : price ≡ netWorth v ls → NotRejected (checkLegs st m t n rs)
     unfolding judged
-    sound e = rw (is-judged h) (not-rejected st m t ls big v fair price priced e)
+    sound e = rw (is-judged h) (not-rejected st m t ls big v fair (priced ∙ e))
 
   both-arrivals : Arrivals st m price ls (checkLegs st m t n rs) (checkLegs st m t n qs)
   both-arrivals =
@@ -164,7 +164,13 @@ module _ (st : Settings) (m : Market) (t : Terms) (n : ℕ) (price : ℤ) (price
         sound = λ h v f e. let x = sound h v f e in (x, rw (check-perm st m t n p) at x);
       }
 
-whole-arrivals : (a : Alike) (xs ys : List Lent) → All IsWhole xs → Perm xs ys → Arrivals (a .settings) (a .market) (a .price) (orderLegs xs) (arrival a xs) (arrival a ys)
+-- the host's integer is what its price stands for
+signed-back : (z : ℤ) → signedPrice (priceOf z) ≡ z
+unfolding priceOf
+signed-back (pos n) = refl
+signed-back (negsuc n) = refl
+
+whole-arrivals : (a : Inputs) (xs ys : List Lent) → All IsWhole xs → Perm xs ys → Arrivals (a .settings) (a .market) (a .price) (orderLegs xs) (arrival a xs) (arrival a ys)
 whole-arrivals a xs ys w p =
     let t = termsOf (a .price) (a .kind) (a .stop) (a .manual) (a .opening) in
     rw (
@@ -172,14 +178,14 @@ whole-arrivals a xs ys w p =
       slices-are (a .settings) (a .market) t ys (all-perm _ p w),
       ← (length-perm p),
     )
-    (both-arrivals (a .settings) (a .market) t (length xs) (a .price) refl (lentLegs xs) (lentLegs ys) (map-perm _ p))
+    (both-arrivals (a .settings) (a .market) t (length xs) (a .price) (signed-back (a .price)) (lentLegs xs) (lentLegs ys) (map-perm _ p))
 
-record-arrivals : (st : Settings) (m : Market) (o p : Order) (price : ℤ) → o .terms .price ≡ priceOf price → o .terms ≡ p .terms → o .len ≡ p .len → Perm (recordLegs o) (recordLegs p)
-    → Arrivals st m price (legsOf (recordLegs o)) (checkOrder st m o) (checkOrder st m p)
+record-arrivals : (st : Settings) (m : Market) (o p : Order) → o .terms ≡ p .terms → o .len ≡ p .len → Perm (recordLegs o) (recordLegs p)
+    → Arrivals st m (signedPrice (o .terms .price)) (legsOf (recordLegs o)) (checkOrder st m o) (checkOrder st m p)
 unfolding checkOrder
-record-arrivals st m o p price e f g q =
-    subst₂ (λ (t : Terms) (n : ℕ). Arrivals st m price (legsOf (recordLegs o)) (checkLegs st m (o .terms) (o .len) (recordLegs o)) (checkLegs st m t n (recordLegs p))) f g
-    (both-arrivals st m (o .terms) (o .len) price e (recordLegs o) (recordLegs p) q)
+record-arrivals st m o p f g q =
+    subst₂ (λ (t : Terms) (n : ℕ). Arrivals st m (signedPrice (o .terms .price)) (legsOf (recordLegs o)) (checkLegs st m (o .terms) (o .len) (recordLegs o)) (checkLegs st m t n (recordLegs p))) f g
+    (both-arrivals st m (o .terms) (o .len) (signedPrice (o .terms .price)) refl (recordLegs o) (recordLegs p) q)
 
 pub demand3 : Demand3
 demand3 =

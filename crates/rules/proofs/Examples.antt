@@ -1,4 +1,4 @@
--- T1 to T8 and the walks' directions, by computing the definitions.
+-- The examples, by computing the definitions.
 use mathlib.Core.Path.{refl}
 use Rattle.rules.specs.Lists.{all, any, somePair, every, lex, insert, sort}
 use Rattle.rules.specs.Numerals.{value, numeral, areDigits}
@@ -10,14 +10,19 @@ use Rattle.rules.specs.Class.{isVertical, isButterfly, isBox, shapeOf, h
 use Rattle.rules.specs.Checks.{putTest, callTest, simpleBuy, sizes, isBelow, sameSideBelow, buyBuy, debitCredit, maximumOf, allowance, maximumValue}
 use Rattle.rules.specs.Market.{isUnusable, elsewhereReference, reference, acceptableTicks, tickAt, limitDistance, isTooFar, tickDistance, settingsHold, marketHolds}
 use Rattle.rules.specs.Numbers.{firstOf, isBadPrice, refusal, rejection, judged, outcome, checkLegs, checkSlices}
-use Rattle.rules.specs.Examples.{Examples, Directions}
+use Rattle.rules.specs.Quote.{comparison, setDistance, isInverted, quoteInversion, isBadQuote, quoteRefusal, quoteRejection, quoteOutcome, checkQuote}
+use Rattle.rules.specs.Tally.{isSpent}
+use Rattle.rules.specs.Examples.{Examples, Directions, Further}
 
-computed : Examples × Directions
-unfolding all any somePair every lex insert sort value numeral areDigits distance areSpaces isRootTail isRoot leapDay daysIn dayExists inLimits symbolOf partsOf isSymbol word rawLeg rawLegs priceOf legOf legsOf gcdWithin gcd commonDivisor units pairOf matched reach walk byStrike byExpiry bothWalks isDebit isVertical isButterfly isBox shapeOf hasOwnClass allOf pairClass classWith putTest callTest simpleBuy sizes isBelow sameSideBelow buyBuy debitCredit maximumOf allowance maximumValue isUnusable elsewhereReference reference acceptableTicks tickAt limitDistance isTooFar tickDistance settingsHold marketHolds firstOf isBadPrice refusal rejection judged outcome checkLegs checkSlices
-computed = (refl, refl)
+computed : Examples × Directions × Further
+unfolding all any somePair every lex insert sort value numeral areDigits distance areSpaces isRootTail isRoot leapDay daysIn dayExists inLimits symbolOf partsOf isSymbol word rawLeg rawLegs priceOf legOf legsOf gcdWithin gcd commonDivisor units pairOf matched reach walk byStrike byExpiry bothWalks isDebit isVertical isButterfly isBox shapeOf hasOwnClass allOf pairClass classWith putTest callTest simpleBuy sizes isBelow sameSideBelow buyBuy debitCredit maximumOf allowance maximumValue isUnusable elsewhereReference reference acceptableTicks tickAt limitDistance isTooFar tickDistance settingsHold marketHolds firstOf isBadPrice refusal rejection judged outcome checkLegs checkSlices comparison setDistance isInverted quoteInversion isBadQuote quoteRefusal quoteRejection quoteOutcome checkQuote isSpent
+computed = (refl, refl, record { orders = refl; simple = refl; inverted = refl; last = refl; full = refl })
 
 pub examples : Examples
 examples = computed .0
 
 pub directions : Directions
 directions = computed .1
+
+pub further : Further
+further = computed .2

@@ -9,7 +9,7 @@ use native.Mathlib.Omega.{arith}
 use lib.Dec.{ltb, leb, eqb}
 use lib.ListN.{length}
 use lib.IntN.{ℤ, pos, negsuc, negℤ, _-ℤ_}
-use borrow.Author.Tests.{ltb-true, ltb-false, leb-true, leb-false, eqb-true, le-ltb, lt-ltb}
+use borrow.Author.Tests.{ltb-true, leb-true, leb-false, eqb-true}
 use Rattle.rules.specs.declared.Mills.{Mills}
 use Rattle.rules.specs.declared.Price.{Price}
 use Rattle.rules.specs.declared.Terms.{Terms}
@@ -18,7 +18,7 @@ use Rattle.rules.specs.declared.Leg.{Leg}
 use Rattle.rules.specs.declared.Settings.{Settings}
 use Rattle.rules.specs.declared.Market.{Market}
 use Rattle.rules.specs.Lists.{All, sameBool, all, every}
-use Rattle.rules.specs.Order.{isYes, isComplex, priceOf, gcd, gcdWithin, commonDivisor, units}
+use Rattle.rules.specs.Order.{isYes, isComplex, signedPrice, gcd, gcdWithin, commonDivisor, units}
 use Rattle.rules.specs.Pairing.{Walked, bothWalks}
 use Rattle.rules.specs.Class.{isVertical, isButterfly, isTrueButterfly, hasOwnClass, isBox, shapeOf, allOf, pairClass, classWith, classOf}
 use Rattle.rules.specs.Checks.{isLimit, isPositive, isNegative, putTest, callTest, simpleBuy, sizes, isBelow, sameSideBelow, buyBuy, debitCredit, maximumOf, allowance, hasMaximum, maximumValue}
@@ -33,24 +33,67 @@ use Rattle.rules.proofs.Shapes.{fly-class, vertical-max, fly-max, box-m
 
 -- the price that is `B` less `S`
 pub record PriceIs (p : Price) (B S : ℕ) : Type 0 where
-  pub received : p .received ≡ ltb B S
+  pub paid : p .received ≡ false → S ≤ B
+  pub got : p .received ≡ true → B ≤ S
   pub size : p .size .0 ≡ (B - S) + (S - B)
 
-pub price-is : (B S : ℕ) → PriceIs (priceOf (pos B -ℤ pos S)) B S
-unfolding priceOf
-price-is B S = go (leb S B) refl
-  where
-    down : (n : ℕ) → S - B ≡ suc n → PriceIs (priceOf (negℤ (pos (suc n)))) B S
-    down n e = record { received = sym (lt-ltb B S (omega arith)); size = omega arith }
+magnitude : ℤ → ℕ
+magnitude (pos n) = n
+magnitude (negsuc n) = suc n
 
-    go : (b : Bool) → leb S B ≡ b → PriceIs (priceOf (pos B -ℤ pos S)) B S
-    go true e =
-        let h = leb-true S B e in
-        rw (minus-up B S h) (record { received = sym (le-ltb B S h); size = omega arith })
-    go false e =
-        let h = leb-false S B e in
-        let n : S - B ≡ suc (S - B - 1) = omega arith in
-        rw (minus-down B S (omega arith), n) (down (S - B - 1) n)
+isBelowZero : ℤ → Bool
+isBelowZero (pos n) = false
+isBelowZero (negsuc n) = true
+
+turned-size : (n : ℕ) → magnitude (negℤ (pos n)) ≡ n
+unfolding magnitude
+turned-size zero = refl
+turned-size (suc n) = refl
+
+turned-sign : (n : ℕ) → 0 < n → isBelowZero (negℤ (pos n)) ≡ true
+unfolding isBelowZero
+turned-sign zero h = absurd (omega arith)
+turned-sign (suc n) h = refl
+
+difference-size : (B S : ℕ) → magnitude (pos B -ℤ pos S) ≡ (B - S) + (S - B)
+unfolding magnitude
+difference-size B S = go (leb S B) refl
+  where
+    go : (b : Bool) → leb S B ≡ b → magnitude (pos B -ℤ pos S) ≡ (B - S) + (S - B)
+    go true e = let h = leb-true S B e in ap magnitude (minus-up B S h) ∙ omega arith
+    go false e = let h = leb-false S B e in ap magnitude (minus-down B S (omega arith)) ∙ turned-size (S - B) ∙ omega arith
+
+pub price-is : (p : Price) (B S : ℕ) → signedPrice p ≡ pos B -ℤ pos S → PriceIs p B S
+unfolding magnitude isBelowZero
+price-is p B S h = record { paid = paid; got = got; size = size }
+  where
+    stands : (r : Bool) → p .received ≡ r → signedPrice p ≡ cond r (negℤ (pos (p .size .0))) (pos (p .size .0))
+    stands r e = ap (λ (x : Bool). cond x (negℤ (pos (p .size .0))) (pos (p .size .0))) e
+
+    whole : (r : Bool) → p .received ≡ r → magnitude (signedPrice p) ≡ p .size .0
+    whole true e = ap magnitude (stands true e) ∙ turned-size (p .size .0)
+    whole false e = ap magnitude (stands false e)
+
+    size : p .size .0 ≡ (B - S) + (S - B)
+    size = sym (whole (p .received) refl) ∙ ap magnitude h ∙ difference-size B S
+
+    paid : p .received ≡ false → S ≤ B
+    paid e = go (leb S B) refl
+      where
+        go : (b : Bool) → leb S B ≡ b → S ≤ B
+        go true f = leb-true S B f
+        go false f =
+            let l = leb-false S B f in
+            absurd (true≢false (sym (turned-sign (S - B) (omega arith)) ∙ ap isBelowZero (sym (minus-down B S (omega arith)) ∙ sym h ∙ stands false e)))
+
+    got : p .received ≡ true → B ≤ S
+    got e = go (leb B S) refl
+      where
+        go : (b : Bool) → leb B S ≡ b → B ≤ S
+        go true f = leb-true B S f
+        go false f =
+            let l = leb-false B S f in
+            absurd (true≢false (sym (turned-sign (p .size .0) (omega (arith, size))) ∙ ap isBelowZero (sym (stands true e) ∙ h ∙ minus-up B S (omega arith))))
 
 -- the class's number for a side
 abbrev pub codeOf : Bool → ℕ
@@ -181,14 +224,14 @@ module _ (st : Settings) (mk : Market) (t : Terms) (legs : List Leg) (v : Series
   not-below true us n p z h e = go (or-either _ _ e)
     where
       go : (isNegative (t .price) ≡ true) ⊎ (ltb (t .price .size .0) n ≡ true) → ⊥
-      go (inl f) = let k = and-both (t .price .received) _ f in omega (arith, ltb-true (B us) (S us) (sym (p .received) ∙ k .0))
+      go (inl f) = let k = and-both (t .price .received) _ f in omega (arith, p .got (k .0), p .size, ltb-true 0 (t .price .size .0) (k .1))
       go (inr f) = omega (arith, p .size, ltb-true (t .price .size .0) n f)
   not-below false us n p z h e = go (or-either _ _ e)
     where
       go : (isPositive (t .price) ≡ true) ⊎ (ltb (t .price .size .0) n ≡ true) → ⊥
       go (inl f) =
           let k = and-both (not (t .price .received)) _ f in
-          omega (arith, ltb-false (B us) (S us) (sym (p .received) ∙ not-eq (t .price .received) (k .0)), p .size, ltb-true 0 (t .price .size .0) (k .1))
+          omega (arith, p .paid (not-eq (t .price .received) (k .0)), p .size, ltb-true 0 (t .price .size .0) (k .1))
       go (inr f) = omega (arith, p .size, ltb-true (t .price .size .0) n f)
 
   pub sound22 : (us : List Leg) → Hs us → Priced us → buyBuy st t us ≡ true → ⊥
@@ -212,11 +255,11 @@ module _ (st : Settings) (mk : Market) (t : Terms) (legs : List Leg) (v : Series
       go (inl f) =
           let (f0, (f1, (f2, z))) = passed _ f in
           let k = and-both (t .price .received) _ f2 in
-          omega (arith, d (eqb-true class 1 f1), ltb-true (B us) (S us) (sym (p .received) ∙ k .0))
+          omega (arith, d (eqb-true class 1 f1), p .got (k .0), p .size, ltb-true 0 (t .price .size .0) (k .1))
       go (inr f) =
           let g = and-both (eqb class 2) _ f in
           let k = and-both (not (t .price .received)) _ (g .1) in
-          omega (arith, c (eqb-true class 2 (g .0)), p .size, ltb-false (B us) (S us) (sym (p .received) ∙ not-eq (t .price .received) (k .0)), ltb-true 0 (t .price .size .0) (k .1))
+          omega (arith, c (eqb-true class 2 (g .0)), p .size, p .paid (not-eq (t .price .received) (k .0)), ltb-true 0 (t .price .size .0) (k .1))
 
   -- a shape with a maximum value keeps to it
   shape-max : (us : List Leg) → Hs us → hasMaximum (shapeOf us) ≡ true → (B us ≤ S us + maximumOf us) × (S us ≤ B us + maximumOf us)

@@ -14,25 +14,12 @@ use Rattle.rules.specs.declared.Market.{Market}
 use Rattle.rules.specs.declared.OrderAnswer.{OrderAnswer}
 use Rattle.rules.specs.Limits.{within}
 use Rattle.rules.specs.Lists.{All, Perm}
-use Rattle.rules.specs.Order.{Lent, symbolsOf, countsOf, lentLegs, recordLegs, priceOf, termsOf, legsOf, netWorth}
+use Rattle.rules.specs.Order.{Lent, symbolsOf, countsOf, lentLegs, recordLegs, signedPrice, legsOf, netWorth}
 use Rattle.rules.specs.Fair.{Fair}
-use Rattle.rules.specs.Numbers.{checkOrder, areWhole, checkSlices}
+use Rattle.rules.specs.Numbers.{checkOrder, areWhole, Inputs, answerTo}
 
--- what both arrivals share: they are "alike in price, kind, flags, settings, market and all else"
-pub record Alike : Type 0 where
-  pub settings : Settings
-  pub market : Market
-  pub price : ℤ
-  pub kind : ℕ
-  pub stop : ℕ
-  pub manual : ℕ
-  pub opening : ℕ
-
--- "an arrival in demand 3 is one call of it": the order check on symbol bytes and count bytes
-abbrev pub answerTo : Alike → List ℕ → List ℕ → OrderAnswer
-answerTo a symbols counts = checkSlices (a .settings) (a .market) (termsOf (a .price) (a .kind) (a .stop) (a .manual) (a .opening)) symbols counts
-
-abbrev pub arrival : Alike → List Lent → OrderAnswer
+-- an arrival of legs; both are "alike in price, kind, flags, settings, market and all else"
+abbrev pub arrival : Inputs → List Lent → OrderAnswer
 arrival a xs = answerTo a (symbolsOf xs) (countsOf xs)
 
 -- "A leg is 21 symbol bytes, whatever they hold, with the count at the same place"
@@ -65,11 +52,11 @@ pub record Arrivals (st : Settings) (m : Market) (price : ℤ) (ls : List Leg) (
 -- "Whatever order arrives, refused ones included, and in whatever other sequence its legs come in a second arrival"
 pub record Demand3 : Type 0 where
   -- any number of whole legs, damaged ones too
-  pub whole : (a : Alike) (xs ys : List Lent) → All IsWhole xs → Perm xs ys → Arrivals (a .settings) (a .market) (a .price) (orderLegs xs) (arrival a xs) (arrival a ys)
+  pub whole : (a : Inputs) (xs ys : List Lent) → All IsWhole xs → Perm xs ys → Arrivals (a .settings) (a .market) (a .price) (orderLegs xs) (arrival a xs) (arrival a ys)
   -- slices that do not divide into legs have no other sequence of legs: all of one length get one answer
-  pub broken : (a : Alike) (s t c d : List ℕ) → length s ≡ length t → length c ≡ length d → areWhole s c ≡ false → answerTo a s c ≡ answerTo a t d
+  pub broken : (a : Inputs) (s t c d : List ℕ) → length s ≡ length t → length c ≡ length d → areWhole s c ≡ false → answerTo a s c ≡ answerTo a t d
   -- and there are no other slices: those that divide are whole legs end to end
   pub covers : (s c : List ℕ) → areWhole s c ≡ true → (xs : List Lent) × All IsWhole xs × (symbolsOf xs ≡ s) × (countsOf xs ≡ c)
   -- the same of the order record, whatever it holds
-  pub orderRecord : (st : Settings) (m : Market) (o p : Order) (price : ℤ) → o .terms .price ≡ priceOf price → o .terms ≡ p .terms → o .len ≡ p .len → Perm (recordLegs o) (recordLegs p)
-      → Arrivals st m price (legsOf (recordLegs o)) (checkOrder st m o) (checkOrder st m p)
+  pub orderRecord : (st : Settings) (m : Market) (o p : Order) → o .terms ≡ p .terms → o .len ≡ p .len → Perm (recordLegs o) (recordLegs p)
+      → Arrivals st m (signedPrice (o .terms .price)) (legsOf (recordLegs o)) (checkOrder st m o) (checkOrder st m p)

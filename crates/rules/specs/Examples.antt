@@ -1,8 +1,9 @@
--- Document 01, Examples: cases T1 to T8, as the host lends them.
+-- Document 01, Examples, as the host lends them.
 use mathlib.Core.Path.{_≡_}
 use mathlib.Core.List.{List, [], _∷_, _++_, reverse}
 use mathlib.Core.Bool.{Bool, true, false, cond}
 use Prim.Native.Nat.{ℕ, suc, _-_, _*_, _^_}
+use lib.Dec.{eqb}
 use lib.IntN.{ℤ, pos, negsuc, negℤ}
 use Rattle.rules.specs.declared.Mills.{Mills}
 use Rattle.rules.specs.declared.Ticks.{Ticks}
@@ -11,10 +12,14 @@ use Rattle.rules.specs.declared.Terms.{Terms}
 use Rattle.rules.specs.declared.Settings.{Settings}
 use Rattle.rules.specs.declared.Market.{Market}
 use Rattle.rules.specs.declared.OrderAnswer.{OrderAnswer}
+use Rattle.rules.specs.declared.QuoteAnswer.{QuoteAnswer}
 use Rattle.rules.specs.Numerals.{numeral}
 use Rattle.rules.specs.Symbol.{symbolOf}
 use Rattle.rules.specs.Order.{Lent, symbolsOf, countsOf, termsOf}
+use Rattle.rules.specs.Market.{marketOf}
 use Rattle.rules.specs.Numbers.{checkSlices}
+use Rattle.rules.specs.Quote.{checkQuote}
+use Rattle.rules.specs.Tally.{isSpent}
 
 -- "all checks on; net increment 10, both ticks 10, every ATD 5, set ticks 4, percentage 300 (3 percent), presets 0 and 600; neither adjusted nor European unless said"
 abbrev pub exampleSettings : ℕ → Settings
@@ -153,3 +158,88 @@ Examples = givens cases ≡ expecteds cases
 
 abbrev pub Directions : Type 0
 Directions = givens directions ≡ expecteds directions
+
+-- T9: T6 at -25,600 and -25,601
+abbrev pub maxima : List Case
+maxima =
+    case (minus 25600) (calls (minus 1) 20 ∷ calls (pos 1) 45 ∷ puts (pos 1) 20 ∷ puts (minus 1) 45 ∷ []) (answers 0 2 4 2)
+    ∷ case (minus 25601) (calls (minus 1) 20 ∷ calls (pos 1) 45 ∷ puts (pos 1) 20 ∷ puts (minus 1) 45 ∷ []) (answers 24 2 4 2)
+    ∷ []
+
+-- the example market with an underlying, an NBB and an NBO, an own bid and offer
+abbrev marketWith : ℕ → ℕ → ℕ → ℕ → ℕ → Market
+marketWith underlying nbb nbo bid offer = marketOf 1 0 0 underlying nbb nbo bid offer 0
+
+-- an order of one leg, and the number expected
+pub record Single : Type 0 where
+  pub market : Market
+  pub price : ℤ
+  pub leg : Lent
+  pub expected : ℕ
+
+abbrev single : Market → ℕ → Lent → ℕ → Single
+single market price leg expected = record { market = market; price = pos price; leg = leg; expected = expected }
+
+abbrev pub singles : List Single
+singles =
+    -- T11: "buy call, underlying 10,000", "buy put, strike 18,000"
+    single (marketWith 10000 0 0 0 0) 8000 (calls (pos 1) 5) 0
+    ∷ single (marketWith 10000 0 0 0 0) 11000 (calls (pos 1) 5) 21
+    ∷ single exampleMarket 17999 (puts (pos 1) 18) 0
+    ∷ single exampleMarket 18000 (puts (pos 1) 18) 20
+    -- T12: "buy call, open, NBO 1,200, tick 10, ATD 5"
+    ∷ single (marketWith 0 0 1200 0 0) 1250 (calls (pos 1) 20) 0
+    ∷ single (marketWith 0 0 1200 0 0) 1251 (calls (pos 1) 20) 25
+    ∷ []
+
+abbrev pub singleGivens : List Single → List ℕ
+singleGivens [] = []
+singleGivens (c ∷ cs) = checkSlices (exampleSettings 0) (c .market) (exampleTerms (c .price)) (c .leg .symbol) (c .leg .count) .number ∷ singleGivens cs
+
+abbrev pub singleExpecteds : List Single → List ℕ
+singleExpecteds [] = []
+singleExpecteds (c ∷ cs) = c .expected ∷ singleExpecteds cs
+
+-- a quote of January's call at 20 with one resting, and the number expected; document 01 prints none
+pub record Quoted : Type 0 where
+  pub market : Market
+  pub bid : ℕ
+  pub offer : ℕ
+  pub expected : ℕ
+
+abbrev quoted : Market → ℕ → ℕ → ℕ → Quoted
+quoted market bid offer expected = record { market = market; bid = bid; offer = offer; expected = expected }
+
+abbrev pub quotes : List Quoted
+quotes =
+    -- the own offer is the NBO: the set ticks, 40 mills, beyond it
+    quoted (marketWith 0 1100 1200 1000 1200) 1240 1300 0
+    ∷ quoted (marketWith 0 1100 1200 1000 1200) 1241 1300 26
+    -- it is not: at the NBO
+    ∷ quoted (marketWith 0 1100 1200 1000 1210) 1199 1300 0
+    ∷ quoted (marketWith 0 1100 1200 1000 1210) 1200 1300 26
+    -- the offer mirrors this
+    ∷ quoted (marketWith 0 1100 1200 1100 1300) 1000 1060 0
+    ∷ quoted (marketWith 0 1100 1200 1100 1300) 1000 1059 26
+    ∷ quoted (marketWith 0 1100 1200 1000 1300) 1000 1100 26
+    -- locked: the own prices, with the set ticks
+    ∷ quoted (marketWith 0 1200 1200 1000 1300) 1340 1400 0
+    ∷ quoted (marketWith 0 1200 1200 1000 1300) 1341 1400 26
+    ∷ []
+
+abbrev pub quoteGivens : List Quoted → List QuoteAnswer
+quoteGivens [] = []
+quoteGivens (c ∷ cs) = checkQuote (exampleSettings 0) (c .market) (calls (pos 1) 20 .symbol) (record { 0 = c .bid }) (record { 0 = c .offer }) 1 ∷ quoteGivens cs
+
+-- the resting quote is to be cancelled where 26 rejects
+abbrev pub quoteExpecteds : List Quoted → List QuoteAnswer
+quoteExpecteds [] = []
+quoteExpecteds (c ∷ cs) = record { number = c .expected; cancel = cond (eqb (c .expected) 0) 0 1 } ∷ quoteExpecteds cs
+
+-- T9, T11, T12, quotes on both sides of each limit of 26, and a tally at its limit
+pub record Further : Type 0 where
+  pub orders : givens maxima ≡ expecteds maxima
+  pub simple : singleGivens singles ≡ singleExpecteds singles
+  pub inverted : quoteGivens quotes ≡ quoteExpecteds quotes
+  pub last : isSpent (record { seen = 999999; refused = 999999; accepted = 0; rejected = 0 }) ≡ false
+  pub full : isSpent (record { seen = 1000000; refused = 1000000; accepted = 0; rejected = 0 }) ≡ true

@@ -11,9 +11,9 @@ pub mod Checks
 pub mod Fair
 pub mod Market
 pub mod Numbers
+pub mod Quote
+pub mod Tally
 pub mod Examples
 pub mod Demand1
 pub mod Demand2
 pub mod Demand3
-pub mod Quote
-pub mod Tally

@@ -15,7 +15,7 @@ use Rattle.rules.specs.declared.OrderAnswer.{OrderAnswer}
 use Rattle.rules.specs.Limits.{within}
 use Rattle.rules.specs.Lists.{sameBool, all, any, somePair}
 use Rattle.rules.specs.Symbol.{isSymbol}
-use Rattle.rules.specs.Order.{isYes, rawLegs, recordLegs, legsOf, units, isSimple}
+use Rattle.rules.specs.Order.{isYes, rawLegs, recordLegs, termsOf, legsOf, units, isSimple}
 use Rattle.rules.specs.Pairing.{Walked, byStrike, bothWalks}
 use Rattle.rules.specs.Class.{shapeOf, classOf}
 use Rattle.rules.specs.Checks.{isPositive, isNegative, putTest, callTest, simpleBuy, buyBuy, debitCredit, maximumValue}
@@ -112,3 +112,17 @@ unfoldable pub checkSlices : Settings → Market → Terms → List ℕ → List
 checkSlices st m t symbols counts =
     let n = length counts / 8 in
     cond (areWhole symbols counts) (checkLegs st m t n (rawLegs n symbols counts)) (refused 1)
+
+-- what the host hands in beside the two slices
+pub record Inputs : Type 0 where
+  pub settings : Settings
+  pub market : Market
+  pub price : ℤ
+  pub kind : ℕ
+  pub stop : ℕ
+  pub manual : ℕ
+  pub opening : ℕ
+
+-- "The order check has no memory; an arrival in demand 3 is one call of it": the order check on symbol bytes and count bytes
+abbrev pub answerTo : Inputs → List ℕ → List ℕ → OrderAnswer
+answerTo a symbols counts = checkSlices (a .settings) (a .market) (termsOf (a .price) (a .kind) (a .stop) (a .manual) (a .opening)) symbols counts

@@ -60,6 +60,10 @@ unfoldable pub priceOf : ℤ → Price
 priceOf (pos n) = record { received = false; size = record { 0 = n } }
 priceOf (negsuc n) = record { received = true; size = record { 0 = suc n } }
 
+-- the integer that a price stands for
+abbrev pub signedPrice : Price → ℤ
+signedPrice p = cond (p .received) (negℤ (pos (p .size .0))) (pos (p .size .0))
+
 -- kind and flags as the host hands them in
 abbrev pub termsOf : ℤ → ℕ → ℕ → ℕ → ℕ → Terms
 termsOf price kind stop manual opening = record { price = priceOf price; kind = kind; stop = stop; manual = manual; opening = opening }

@@ -8,8 +8,7 @@ use Rattle.rules.specs.declared.OrderAnswer.{OrderAnswer}
 use Rattle.rules.specs.declared.Tally.{Tally}
 use Rattle.rules.specs.declared.TalliedAnswer.{TalliedAnswer}
 use Rattle.rules.specs.Limits.{within}
-use Rattle.rules.specs.Numbers.{refused}
-use Rattle.rules.specs.Demand3.{Alike, answerTo}
+use Rattle.rules.specs.Numbers.{refused, Inputs, answerTo}
 
 -- "12 a tally that has seen 1,000,000 or more, or whose seen is not refused, accepted and rejected together": the true sum, not that of a word
 unfoldable pub isSpent : Tally → Bool
@@ -45,12 +44,12 @@ tallied t answer = record { answer = cond (isSpent t) (refused 12) answer; tally
 
 -- one call of the tallied check: what the order check is called with
 pub record Call : Type 0 where
-  pub alike : Alike
+  pub inputs : Inputs
   pub symbols : List ℕ
   pub counts : List ℕ
 
 abbrev pub orderAnswer : Call → OrderAnswer
-orderAnswer c = answerTo (c .alike) (c .symbols) (c .counts)
+orderAnswer c = answerTo (c .inputs) (c .symbols) (c .counts)
 
 unfoldable pub checkTallied : Tally → Call → TalliedAnswer
 checkTallied t c = tallied t (orderAnswer c)

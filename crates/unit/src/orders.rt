@@ -5,7 +5,7 @@ use order_check::check_slices;
 use terms::terms_of;
 ghost use mathlib.Core.Path.{_≡_};
 ghost use Rattle.rules.specs.Market.{settingsOf, marketOf};
-ghost use Rattle.rules.specs.Demand3.{answerTo};
+ghost use Rattle.rules.specs.Numbers.{answerTo};
 
 // Checks an order. The number is the result; class, shape and pairings are lent.
 #[no_mangle]
