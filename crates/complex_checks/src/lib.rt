@@ -3,6 +3,8 @@
 use choice::both;
 use choice::choose;
 use choice::either;
+use choice::greater;
+use choice::smaller;
 use price::is_negative;
 use price::is_positive;
 use rules::Legs;
@@ -13,7 +15,7 @@ use strikes::maximum_of;
 ghost use mathlib.Core.Path.{_≡_};
 ghost use mathlib.Core.List.{List};
 ghost use mathlib.Core.Bool.{true};
-ghost use Prim.Native.Nat.{_≤_, min, max};
+ghost use Prim.Native.Nat.{_≤_};
 ghost use Rattle.rules.specs.declared.Leg.{Leg};
 ghost use Rattle.rules.specs.declared.Market.{Market};
 ghost use Rattle.rules.specs.Lists.{sameBool, all, All};
@@ -87,18 +89,6 @@ fn debit_credit(t: Terms, class: u64) -> bool
     either(debit, credit)
 }
 
-fn lower(x: u64, y: u64) -> u64
-    ensures { λ r. ⌜ r ≡ min x y ⌝ }
-{
-    if x < y { x } else { y }
-}
-
-fn higher(x: u64, y: u64) -> u64
-    ensures { λ r. ⌜ r ≡ max x y ⌝ }
-{
-    if x < y { y } else { x }
-}
-
 // A: the percentage of M, raised to the preset minimum, then lowered to the preset maximum.
 fn allowance(st: Settings, m: u64) -> u64
     requires { ⌜ (settingsHold st ≡ true) × (m ≤ 99999999) ⌝ }
@@ -107,8 +97,8 @@ fn allowance(st: Settings, m: u64) -> u64
     let least = st.least.0;
     let most = st.most.0;
     let share = m * st.percentage / 10000;
-    let raised = higher(least, share);
-    lower(most, raised)
+    let raised = greater(least, share);
+    smaller(most, raised)
 }
 
 // The shapes that have a maximum value.
