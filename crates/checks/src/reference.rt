@@ -1,12 +1,14 @@
 // The reference price of a single option, and the distance set for it.
 use choice::both;
-use choice::choose;
 use choice::either;
 use choice::negated;
 use rules::Market;
 use rules::Mills;
 use rules::Settings;
 use rules::Ticks;
+use sides::at_or_past;
+use sides::national;
+use sides::own;
 ghost use mathlib.Core.Path.{_≡_};
 ghost use mathlib.Core.Bool.{cond, not, _&&_, _||_};
 ghost use lib.Dec.{eqb, ltb};
@@ -48,13 +50,6 @@ pub fn is_unusable(m: Market) -> bool
     is_nbbo_unusable(m.nbb, m.nbo)
 }
 
-// Whether a buy's price is not below the other, or a sell's not above it.
-fn not_inside(bought: bool, x: Mills, y: Mills) -> bool
-    ensures { λ r. ⌜ r ≡ atOrPast bought (x .0) (y .0) ⌝ }
-{
-    choose(bought, y.0 <= x.0, x.0 <= y.0)
-}
-
 // Before the opening, with the option open elsewhere: `national` is the price that the order meets, `opposite` that of its own side.
 fn elsewhere_reference(
     bought: bool,
@@ -68,7 +63,7 @@ fn elsewhere_reference(
     pick_price(
         either(
             unusable,
-            both(is_missing(national), not_inside(bought, close, opposite)),
+            both(is_missing(national), at_or_past(bought, close, opposite)),
         ),
         close,
         national,
@@ -79,17 +74,13 @@ pub fn reference(bought: bool, m: Market) -> Mills
     ensures { λ r. ⌜ r ≡ reference bought m ⌝ }
 {
     let unusable = is_nbbo_unusable(m.nbb, m.nbo);
-    let national = pick_price(bought, m.nbo, m.nbb);
-    let opposite = pick_price(negated(bought), m.nbo, m.nbb);
-    let elsewhere = elsewhere_reference(bought, unusable, national, opposite, m.close);
+    let best = national(bought, m);
+    let opposite = national(negated(bought), m);
+    let elsewhere = elsewhere_reference(bought, unusable, best, opposite, m.close);
     pick_price(
         m.phase == 0,
         pick_price(m.elsewhere != 0, elsewhere, m.close),
-        pick_price(
-            both(m.phase == 1, unusable),
-            pick_price(bought, m.offer, m.bid),
-            national,
-        ),
+        pick_price(both(m.phase == 1, unusable), own(bought, m), best),
     )
 }
 

@@ -8,24 +8,15 @@ use quantity::distance;
 use rules::Market;
 use rules::Mills;
 use rules::Settings;
+use sides::at_or_past;
+use sides::is_beyond;
+use sides::national;
+use sides::own;
 ghost use mathlib.Core.Path.{_≡_};
 ghost use mathlib.Core.Bool.{true};
 ghost use Prim.Native.Nat.{_≤_};
-ghost use Rattle.rules.specs.Market.{national, own, atOrPast, isBeyond, settingsHold, marketHolds};
+ghost use Rattle.rules.specs.Market.{settingsHold, marketHolds};
 ghost use Rattle.rules.specs.Quote.{comparison, setDistance, isInverted, isQuoting, quoteInversion};
-
-// The prices that a bid (`bought`) meets, or an offer: the national best and the own price of the other side.
-fn national(bought: bool, m: Market) -> Mills
-    ensures { λ r. ⌜ r ≡ national bought m ⌝ }
-{
-    if bought { m.nbo } else { m.nbb }
-}
-
-fn own(bought: bool, m: Market) -> Mills
-    ensures { λ r. ⌜ r ≡ own bought m ⌝ }
-{
-    if bought { m.offer } else { m.bid }
-}
 
 fn comparison(bought: bool, m: Market) -> Mills
     ensures { λ r. ⌜ r ≡ comparison bought m ⌝ }
@@ -44,24 +35,10 @@ fn set_distance(st: Settings, p: Mills) -> Mills
     distance(st.setticks, tick_at(st, p))
 }
 
-// Both sides by sums, so that nothing falls below zero.
-fn is_beyond(bought: bool, price: Mills, p: Mills, d: Mills) -> bool
-    requires { ⌜ (price .0 ≤ 1000000000) × (p .0 ≤ 1000000000) × (d .0 ≤ 1000000) ⌝ }
-    ensures { λ r. ⌜ r ≡ isBeyond bought (price .0) (p .0) (d .0) ⌝ }
-{
-    choose(bought, p.0 + d.0 < price.0, price.0 + d.0 < p.0)
-}
-
-fn at_or_past(bought: bool, price: Mills, p: Mills) -> bool
-    ensures { λ r. ⌜ r ≡ atOrPast bought (price .0) (p .0) ⌝ }
-{
-    choose(bought, p.0 <= price.0, price.0 <= p.0)
-}
-
 // One side of a quote: the bid (`bought`) or the offer. Where the own price stands in for the national best it equals
 // the comparison price, and the set ticks apply.
 pub fn is_inverted(bought: bool, st: Settings, m: Market, price: Mills) -> bool
-    requires { ⌜ (settingsHold st ≡ true) × (marketHolds m ≡ true) × (price .0 ≤ 1000000000) ⌝ }
+    requires { ⌜ (settingsHold st ≡ true) × (marketHolds m ≡ true) ⌝ }
     ensures { λ r. ⌜ r ≡ isInverted bought st m price ⌝ }
 {
     let p = comparison(bought, m);
@@ -85,7 +62,7 @@ fn is_quoting(m: Market) -> bool
 }
 
 pub fn quote_inversion(st: Settings, m: Market, bid: Mills, offer: Mills) -> bool
-    requires { ⌜ (settingsHold st ≡ true) × (marketHolds m ≡ true) × (bid .0 ≤ 1000000000) × (offer .0 ≤ 1000000000) ⌝ }
+    requires { ⌜ (settingsHold st ≡ true) × (marketHolds m ≡ true) ⌝ }
     ensures { λ r. ⌜ r ≡ quoteInversion st m bid offer ⌝ }
 {
     both(

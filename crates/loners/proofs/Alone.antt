@@ -7,7 +7,7 @@ use native.Mathlib.Omega.{arith}
 use lib.ListN.{length, take, drop, getD}
 use Rattle.rules.specs.declared.Leg.{Leg}
 use Rattle.rules.specs.Order.{noLeg}
-use Rattle.walk.specs.declared.Tally.{Tally}
+use Rattle.walk.specs.declared.PairTally.{PairTally}
 use Rattle.walk.specs.Tags.{legAt, legsFrom}
 use Rattle.walk.proofs.Zip.{zip-length, zip-at}
 use Rattle.walk.proofs.Walking.{step, end}
@@ -20,12 +20,12 @@ module _ (root : ℕ) (second : Bool) (tags left : List ℕ) (t : length tags �
   full : length legs ≡ 16
   full = zip-length (legAt root second) tags left (t ∙ sym l) ∙ t
 
-  pub alone-turn : (r r′ : Tally) (i : ℕ) → i < n → r′ ≡ aloneAt r (getD tags i 0) (getD left i 0) → allAlone r′ (drop (i + 1) (take n legs)) ≡ allAlone r (drop i (take n legs))
+  pub alone-turn : (r r′ : PairTally) (i : ℕ) → i < n → r′ ≡ aloneAt r (getD tags i 0) (getD left i 0) → allAlone r′ (drop (i + 1) (take n legs)) ≡ allAlone r (drop i (take n legs))
   unfolding aloneAt
   alone-turn r r′ i h e =
       let is : getD legs i noLeg ≡ legAt root second (getD tags i 0) (getD left i 0) = zip-at (legAt root second) tags left i 0 0 noLeg (omega arith) (omega arith) in
-      ap (λ (x : Tally). allAlone x (drop (i + 1) (take n legs))) (e ∙ ap (λ (x : Leg). aloneWith r (x .bought) (x .size)) (sym is))
+      ap (λ (x : PairTally). allAlone x (drop (i + 1) (take n legs))) (e ∙ ap (λ (x : Leg). aloneWith r (x .bought) (x .size)) (sym is))
       ∙ sym (ap (allAlone r) (step legs n full fits i h))
 
-  pub alone-end : (r : Tally) (i : ℕ) → i ≡ n → allAlone r (drop i (take n legs)) ≡ r
+  pub alone-end : (r : PairTally) (i : ℕ) → i ≡ n → allAlone r (drop i (take n legs)) ≡ r
   alone-end r i e = ap (λ (k : ℕ). allAlone r (drop k (take n legs))) e ∙ ap (allAlone r) (end legs n full fits)

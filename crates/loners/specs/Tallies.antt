@@ -6,29 +6,29 @@ use Prim.Native.Nat.{ℕ, _+_, _%_}
 use lib.ListN.{take}
 use lib.Dec.{eqb}
 use Rattle.rules.specs.declared.Leg.{Leg}
-use Rattle.walk.specs.declared.Tally.{Tally}
+use Rattle.walk.specs.declared.PairTally.{PairTally}
 use Rattle.walk.specs.Tags.{legsFrom}
 
-abbrev pub aloneWith : Tally → Bool → ℕ → Tally
+abbrev pub aloneWith : PairTally → Bool → ℕ → PairTally
 aloneWith t bought left =
     let open′ = not (eqb left 0) in
     record { pairs = t .pairs; debit = t .debit || open′ && bought; credit = t .credit || open′ && not bought }
 
-unfoldable pub aloneAt : Tally → ℕ → ℕ → Tally
+unfoldable pub aloneAt : PairTally → ℕ → ℕ → PairTally
 aloneAt t tag left = aloneWith t (eqb (tag % 2) 1) left
 
 -- a leg that is left over is a loner if it has contracts open
-abbrev pub allAlone : Tally → List Leg → Tally
+abbrev pub allAlone : PairTally → List Leg → PairTally
 allAlone t [] = t
 allAlone t (x ∷ xs) = allAlone (aloneWith t (x .bought) (x .size)) xs
 
-pub record Loners (t : Tally) (tags left : List ℕ) (n : ℕ) (r : Tally) : Type 0 where
+pub record Loners (t : PairTally) (tags left : List ℕ) (n : ℕ) (r : PairTally) : Type 0 where
   pub legs : (root : ℕ) (second : Bool) → r ≡ allAlone t (take n (legsFrom root second tags left))
   pub pairs : r .pairs ≡ t .pairs
 
-abbrev pub joinedTallies : Tally → Tally → Tally
+abbrev pub joinedTallies : PairTally → PairTally → PairTally
 joinedTallies a b = record { pairs = a .pairs + b .pairs; debit = a .debit || b .debit; credit = a .credit || b .credit }
 
 -- 1 debit, 2 credit, 0 undetermined
-abbrev pub tallyClass : Tally → ℕ
+abbrev pub tallyClass : PairTally → ℕ
 tallyClass t = cond (t .credit) (cond (t .debit) 0 2) 1

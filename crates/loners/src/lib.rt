@@ -3,19 +3,19 @@ use choice::both;
 use choice::either;
 use choice::negated;
 use choice::pick;
-use walk::Tally;
+use walk::PairTally;
 ghost use mathlib.Core.Path.{_≡_};
 ghost use Prim.Native.Nat.{_≤_};
 ghost use lib.ListN.{length};
 ghost use Rattle.loners.specs.Tallies.{aloneAt, tallyClass, joinedTallies, Loners};
 
 // The tally after a leg that is left with some contracts, or none.
-fn lone(t: Tally, tag: u64, left: u64) -> Tally
+fn lone(t: PairTally, tag: u64, left: u64) -> PairTally
     ensures { λ r. ⌜ r ≡ aloneAt t tag left ⌝ }
 {
     let open = negated(left == 0);
     let bought = tag % 2 == 1;
-    Tally {
+    PairTally {
         pairs: t.pairs,
         debit: either(t.debit, both(open, bought)),
         credit: either(t.credit, both(open, negated(bought))),
@@ -23,7 +23,7 @@ fn lone(t: Tally, tag: u64, left: u64) -> Tally
 }
 
 // The tally with the loners among the first n legs.
-pub fn loners(t: Tally, tags: &[u64; 16], left: &[u64; 16], n: usize) -> Tally
+pub fn loners(t: PairTally, tags: &[u64; 16], left: &[u64; 16], n: usize) -> PairTally
     requires { ⌜ (length (now tags) ≡ 16) × (length (now left) ≡ 16) × (n ≤ 16) ⌝ }
     ensures { λ r. ⌜ Loners t (now (tags .entry)) (now (left .entry)) n r ⌝ }
 {
@@ -37,18 +37,18 @@ pub fn loners(t: Tally, tags: &[u64; 16], left: &[u64; 16], n: usize) -> Tally
 }
 
 // Two tallies as one.
-pub fn joined(a: Tally, b: Tally) -> Tally
+pub fn joined(a: PairTally, b: PairTally) -> PairTally
     requires { ⌜ (a .pairs ≤ 1000) × (b .pairs ≤ 1000) ⌝ }
     ensures { λ r. ⌜ r ≡ joinedTallies a b ⌝ }
 {
-    Tally {
+    PairTally {
         pairs: a.pairs + b.pairs,
         debit: either(a.debit, b.debit),
         credit: either(a.credit, b.credit),
     }
 }
 
-pub fn class_of(t: Tally) -> u64
+pub fn class_of(t: PairTally) -> u64
     ensures { λ r. ⌜ r ≡ tallyClass t ⌝ }
 {
     pick(t.credit, pick(t.debit, 0, 2), 1)

@@ -14,7 +14,7 @@ use Rattle.rules.specs.Pairing.{Walked, walk, oneExpiry, oneStrike, expiryKey, 
 use Rattle.rules.specs.Class.{pairClass}
 use Rattle.rules.proofs.Pairings.{pairing-fewer}
 use Rattle.sorting.specs.Keys.{sortKeys, tagged, EachTwo}
-use Rattle.walk.specs.declared.Tally.{Tally}
+use Rattle.walk.specs.declared.PairTally.{PairTally}
 use Rattle.walk.specs.Tags.{legAt, legsFrom, Tagged, none, noted, Walks}
 use Rattle.tags.specs.Legs.{InRange, tagOf}
 use Rattle.again.specs.Second.{keyAgain, secondTag, Moved}
@@ -30,14 +30,14 @@ all-first P d (suc n) [] h = tt
 all-first P d (suc n) (x ∷ ls) h = (h 0 (omega arith), all-first P d n ls (λ i k. h (suc i) (omega arith)))
 
 -- a tally of pairs, then of loners, says the number of pairs and the class
-tallied : (v : Walked) (t t′ : Tally) (r : ℕ) → t ≡ noted none (v .pairs) → t′ ≡ allAlone t (v .legs) → t′ .pairs ≡ t .pairs → r ≡ tallyClass t′
+tallied : (v : Walked) (t t′ : PairTally) (r : ℕ) → t ≡ noted none (v .pairs) → t′ ≡ allAlone t (v .legs) → t′ .pairs ≡ t .pairs → r ≡ tallyClass t′
     → (t′ .pairs ≡ length (v .pairs)) × (r ≡ pairClass v)
 tallied v t t′ r e f p k = (
-  omega (arith, p, ap (λ (x : Tally). x .pairs) e, pairs-counted none (v .pairs)),
-  k ∙ ap tallyClass (f ∙ ap (λ (x : Tally). allAlone x (v .legs)) e) ∙ class-tallied v,
+  omega (arith, p, ap (λ (x : PairTally). x .pairs) e, pairs-counted none (v .pairs)),
+  k ∙ ap tallyClass (f ∙ ap (λ (x : PairTally). allAlone x (v .legs)) e) ∙ class-tallied v,
 )
 
-module _ (l : Legs) (w : Walkable l) (tags sizes left : List ℕ) (a : Tally)
+module _ (l : Legs) (w : Walkable l) (tags sizes left : List ℕ) (a : PairTally)
     (tg : (take (l .len) tags ≡ map tagOf (legsIn l)) × Tagged tags)
     (sz : (take (l .len) sizes ≡ map (λ x. x .size) (legsIn l)) × (length sizes ≡ 16))
     (wa : Walks tags sizes left (l .len) false a) where
@@ -71,11 +71,11 @@ module _ (l : Legs) (w : Walkable l) (tags sizes left : List ℕ) (a : Tally)
 
   pub first-few : a .pairs ≤ 1000
   first-few =
-      let e = ap (λ (x : Tally). x .pairs) first-tally ∙ pairs-counted none (first .pairs) in
+      let e = ap (λ (x : PairTally). x .pairs) first-tally ∙ pairs-counted none (first .pairs) in
       let f = rw once at (pairing-fewer true (legsIn l)) in
       omega (arith, e, f, legs-few)
 
-  pub one-walk : (t : Tally) (r : ℕ) → Loners a tags left n t → r ≡ tallyClass t → BothWalks true l (t .pairs) r
+  pub one-walk : (t : PairTally) (r : ℕ) → Loners a tags left n t → r ≡ tallyClass t → BothWalks true l (t .pairs) r
   one-walk t r lo k =
       let d = tallied first a t r first-tally (lo .legs root false ∙ ap (allAlone a) left-legs) (lo .pairs) k in
       record { pairings = d .0 ∙ ap (λ (v : Walked). length (v .pairs)) (sym once); class = d .1 ∙ ap pairClass (sym once) }
@@ -88,7 +88,7 @@ module _ (l : Legs) (w : Walkable l) (tags sizes left : List ℕ) (a : Tally)
       let m = ap (map (λ x. expiryKey (x .series))) (sym (zip-take (legAt root false) n tags sizes) ∙ first-legs) in
       rw (sym k ∙ m) (w .apart)
 
-  module _ (places second rest after : List ℕ) (b : Tally)
+  module _ (places second rest after : List ℕ) (b : PairTally)
       (order : take n places ≡ sortKeys (tagged 0 (map keyAgain (take n tags))))
       (ms : Moved places n second (λ p. secondTag p (getD tags (p % 16) 0)))
       (mr : Moved places n rest (λ p. getD left (p % 16) 0))
@@ -111,11 +111,11 @@ module _ (l : Legs) (w : Walkable l) (tags sizes left : List ℕ) (a : Tally)
 
     pub second-few : b .pairs ≤ 1000
     second-few =
-        let e = ap (λ (x : Tally). x .pairs) second-tally ∙ pairs-counted none (again .pairs) in
+        let e = ap (λ (x : PairTally). x .pairs) second-tally ∙ pairs-counted none (again .pairs) in
         let f = rw twice at (pairing-fewer false (legsIn l)) in
         omega (arith, e, f, legs-few, length-append (first .pairs) (again .pairs))
 
-    pub two-walks : (t : Tally) (r : ℕ) → Loners (joinedTallies a b) second after n t → r ≡ tallyClass t → BothWalks false l (t .pairs) r
+    pub two-walks : (t : PairTally) (r : ℕ) → Loners (joinedTallies a b) second after n t → r ≡ tallyClass t → BothWalks false l (t .pairs) r
     two-walks t r lo k =
         let e = ap₂ joinedTallies first-tally second-tally ∙ sym (noted-both (first .pairs) (again .pairs)) in
         let f = wb .legs root ∙ ap (λ (ls : List Leg). walk oneStrike ls .legs) second-legs in

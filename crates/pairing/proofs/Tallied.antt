@@ -10,12 +10,12 @@ use Rattle.rules.specs.declared.Leg.{Leg}
 use Rattle.rules.specs.Lists.{sameBool, all}
 use Rattle.rules.specs.Pairing.{Pair, Walked, isDebit}
 use Rattle.rules.specs.Class.{allOf, pairClass}
-use Rattle.walk.specs.declared.Tally.{Tally}
+use Rattle.walk.specs.declared.PairTally.{PairTally}
 use Rattle.walk.specs.Tags.{oneMore, none, noted}
 use Rattle.loners.specs.Tallies.{aloneWith, allAlone, joinedTallies, tallyClass}
 
 -- a further list of pairs is tallied by itself and joined
-pub noted-together : (t : Tally) (ms : List Pair) → noted t ms ≡ joinedTallies t (noted none ms)
+pub noted-together : (t : PairTally) (ms : List Pair) → noted t ms ≡ joinedTallies t (noted none ms)
 noted-together t [] = λ i. record { pairs = e i; debit = sym (or-false (t .debit)) i; credit = sym (or-false (t .credit)) i }
   where
     or-false : (b : Bool) → b || false ≡ b
@@ -33,20 +33,20 @@ noted-together t (m ∷ ms) = noted-together (oneMore t d) ms ∙ shift t d (not
     assoc true b c = refl
     assoc false b c = refl
 
-    shift : (a : Tally) (b : Bool) (c : Tally) → joinedTallies (oneMore a b) c ≡ joinedTallies a (joinedTallies (oneMore none b) c)
+    shift : (a : PairTally) (b : Bool) (c : PairTally) → joinedTallies (oneMore a b) c ≡ joinedTallies a (joinedTallies (oneMore none b) c)
     shift a b c = λ i. record { pairs = f i; debit = assoc (a .debit) b (c .debit) i; credit = assoc (a .credit) (not b) (c .credit) i }
       where
         f : a .pairs + 1 + c .pairs ≡ a .pairs + (0 + 1 + c .pairs)
         f = omega arith
 
-noted-append : (t : Tally) (ms ns : List Pair) → noted t (ms ++ ns) ≡ noted (noted t ms) ns
+noted-append : (t : PairTally) (ms ns : List Pair) → noted t (ms ++ ns) ≡ noted (noted t ms) ns
 noted-append t [] ns = refl
 noted-append t (m ∷ ms) ns = noted-append _ ms ns
 
 pub noted-both : (ms ns : List Pair) → noted none (ms ++ ns) ≡ joinedTallies (noted none ms) (noted none ns)
 noted-both ms ns = noted-append none ms ns ∙ noted-together (noted none ms) ns
 
-pub pairs-counted : (t : Tally) (ms : List Pair) → noted t ms .pairs ≡ t .pairs + length ms
+pub pairs-counted : (t : PairTally) (ms : List Pair) → noted t ms .pairs ≡ t .pairs + length ms
 pairs-counted t [] = omega arith
 pairs-counted t (m ∷ ms) = omega (arith, pairs-counted (oneMore t (isDebit (m .buy) (m .sell))) ms)
 
@@ -54,7 +54,7 @@ or-none : (c : Bool) → c ≡ c || false
 or-none true = refl
 or-none false = refl
 
-pairs-credit : (t : Tally) (ms : List Pair) → noted t ms .credit ≡ t .credit || not (all (λ m. sameBool true (isDebit (m .buy) (m .sell))) ms)
+pairs-credit : (t : PairTally) (ms : List Pair) → noted t ms .credit ≡ t .credit || not (all (λ m. sameBool true (isDebit (m .buy) (m .sell))) ms)
 unfolding all
 pairs-credit t [] = or-none (t .credit)
 pairs-credit t (m ∷ ms) = pairs-credit (oneMore t (isDebit (m .buy) (m .sell))) ms ∙ go (t .credit) (isDebit (m .buy) (m .sell)) _
@@ -64,7 +64,7 @@ pairs-credit t (m ∷ ms) = pairs-credit (oneMore t (isDebit (m .buy) (m .sell))
     go false true a = refl
     go false false a = refl
 
-pairs-debit : (t : Tally) (ms : List Pair) → noted t ms .debit ≡ t .debit || not (all (λ m. sameBool false (isDebit (m .buy) (m .sell))) ms)
+pairs-debit : (t : PairTally) (ms : List Pair) → noted t ms .debit ≡ t .debit || not (all (λ m. sameBool false (isDebit (m .buy) (m .sell))) ms)
 unfolding all
 pairs-debit t [] = or-none (t .debit)
 pairs-debit t (m ∷ ms) = pairs-debit (oneMore t (isDebit (m .buy) (m .sell))) ms ∙ go (t .debit) (isDebit (m .buy) (m .sell)) _
@@ -74,7 +74,7 @@ pairs-debit t (m ∷ ms) = pairs-debit (oneMore t (isDebit (m .buy) (m .sell))) 
     go false true a = refl
     go false false a = refl
 
-legs-credit : (t : Tally) (ls : List Leg) → allAlone t ls .credit ≡ t .credit || not (all (λ l. eqb (l .size) 0 || sameBool true (l .bought)) ls)
+legs-credit : (t : PairTally) (ls : List Leg) → allAlone t ls .credit ≡ t .credit || not (all (λ l. eqb (l .size) 0 || sameBool true (l .bought)) ls)
 unfolding all
 legs-credit t [] = or-none (t .credit)
 legs-credit t (l ∷ ls) = legs-credit (aloneWith t (l .bought) (l .size)) ls ∙ go (t .credit) (eqb (l .size) 0) (l .bought) _
@@ -85,7 +85,7 @@ legs-credit t (l ∷ ls) = legs-credit (aloneWith t (l .bought) (l .size)) ls �
     go false false true a = refl
     go false false false a = refl
 
-legs-debit : (t : Tally) (ls : List Leg) → allAlone t ls .debit ≡ t .debit || not (all (λ l. eqb (l .size) 0 || sameBool false (l .bought)) ls)
+legs-debit : (t : PairTally) (ls : List Leg) → allAlone t ls .debit ≡ t .debit || not (all (λ l. eqb (l .size) 0 || sameBool false (l .bought)) ls)
 unfolding all
 legs-debit t [] = or-none (t .debit)
 legs-debit t (l ∷ ls) = legs-debit (aloneWith t (l .bought) (l .size)) ls ∙ go (t .debit) (eqb (l .size) 0) (l .bought) _

@@ -2,7 +2,7 @@
 use mathlib.Core.Path.{_≡_, refl, sym, ap, _∙_}
 use mathlib.Core.List.{List, [], _∷_}
 use mathlib.Core.Bool.{Bool, true, false, not, _&&_}
-use Prim.Native.Nat.{ℕ, zero, suc, _≤_}
+use Prim.Native.Nat.{ℕ, zero, suc}
 use lib.ListN.{length}
 use borrow.Author.Tests.{not-false, eq-eqb, ne-eqb}
 use Rattle.rules.specs.declared.Mills.{Mills}
@@ -17,7 +17,6 @@ use Rattle.rules.specs.Market.{settingsHold, marketHolds}
 use Rattle.rules.specs.Numbers.{firstOf}
 use Rattle.rules.specs.Quote.{quoteInversion, isBadQuote, quoteRefusal, quoteRejection, rejectedQuote, quoteOutcome, checkQuote}
 use Rattle.rules.proofs.Numbering.{stop, skip, ended, none-applies}
-use Rattle.rules.proofs.Bounds.{quote-bounds}
 
 -- ---- the first check that applies
 
@@ -49,13 +48,6 @@ module _ (st : Settings) (m : Market) (s : Series) (bid offer : Mills) where
 
 -- ---- the first refusal
 
--- what a quote has that none refuses
-pub record IsValidQuote (st : Settings) (m : Market) (bid offer : Mills) : Type 0 where
-  pub settings : settingsHold st ≡ true
-  pub market : marketHolds m ≡ true
-  pub bid-most : bid .0 ≤ 1000000000
-  pub offer-most : offer .0 ≤ 1000000000
-
 module _ (st : Settings) (m : Market) (symbol : List ℕ) (bid offer : Mills) where
   pub wrong-length : (length symbol ≡ 21 → ⊥) → 1 ≡ quoteRefusal st m symbol bid offer
   unfolding quoteRefusal firstOf
@@ -70,16 +62,14 @@ module _ (st : Settings) (m : Market) (symbol : List ℕ) (bid offer : Mills) wh
   unfolding quoteRefusal firstOf
   first-test h p q r s = rw (eq-eqb (length symbol) 21 h, p, q, r, s)
 
-  pub not-refused : quoteRefusal st m symbol bid offer ≡ 0 → IsValidQuote st m bid offer
+  pub not-refused : quoteRefusal st m symbol bid offer ≡ 0 → (settingsHold st ≡ true) × (marketHolds m ≡ true)
   unfolding quoteRefusal
   not-refused h =
       let a1 = none-applies _ 0 _ h in
       let a4 = none-applies _ 3 _ (a1 .1) in
       let a9 = none-applies _ 8 _ (a4 .1) in
       let a10 = none-applies _ 9 _ (a9 .1) in
-      let a11 = none-applies _ 10 _ (a10 .1) in
-      let b = quote-bounds bid offer (a11 .0) in
-      record { settings = not-false _ (a9 .0); market = not-false _ (a10 .0); bid-most = b .0; offer-most = b .1 }
+      (not-false _ (a9 .0), not-false _ (a10 .0))
 
   -- ---- the answer
 

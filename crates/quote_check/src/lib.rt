@@ -20,7 +20,7 @@ pub mod refusal;
 
 // The number of the first check that applies, 0 if none. 20 and 21 test the bid.
 pub fn rejection(st: Settings, m: Market, s: Series, bid: Mills, offer: Mills) -> u64
-    requires { ⌜ (settingsHold st ≡ true) × (marketHolds m ≡ true) × (bid .0 ≤ 1000000000) × (offer .0 ≤ 1000000000) ⌝ }
+    requires { ⌜ (settingsHold st ≡ true) × (marketHolds m ≡ true) ⌝ }
     ensures { λ r. ⌜ r ≡ quoteRejection st m s bid offer ⌝ }
 {
     if both(st.check20 != 0, put_test(s, bid)) {

@@ -5,7 +5,6 @@ use Prim.Native.Nat.{ℕ, _≤_}
 use native.Mathlib.Omega.{arith}
 use native.Mathlib.Nat.{mul-le-mul}
 use lib.Dec.{eqb, ltb}
-use borrow.Author.Tests.{not-false}
 use Rattle.rules.specs.declared.Mills.{Mills}
 use Rattle.rules.specs.declared.Ticks.{Ticks}
 use Rattle.rules.specs.declared.Settings.{Settings}
@@ -14,8 +13,8 @@ use Rattle.rules.specs.Order.{isYes}
 use Rattle.rules.specs.Limits.{within}
 use Rattle.rules.specs.Quantities.{distance}
 use Rattle.rules.specs.Market.{settingsHold, marketHolds, isMissing, isUnusable, national, own, atOrPast, elsewhereReference, reference, acceptableTicks, tickAt}
-use Rattle.rules.specs.Quote.{comparison, isBadQuote}
-use Rattle.rules.proofs.Tests.{within-both, passed, or-neither}
+use Rattle.rules.specs.Quote.{comparison}
+use Rattle.rules.proofs.Tests.{within-both, passed}
 
 most : (least greatest x : ℕ) → within least greatest x ≡ true → x ≤ greatest
 most least greatest x h = within-both least greatest x h .1
@@ -113,9 +112,3 @@ reference-bound bought m h =
 pub comparison-bound : (bought : Bool) (m : Market) → marketHolds m ≡ true → comparison bought m .0 ≤ 1000000000
 unfolding comparison
 comparison-bound bought m h = let b = market-bounds m h in either small (isUnusable m) (own-bound bought m b) (national-bound bought m b)
-
-pub quote-bounds : (bid offer : Mills) → isBadQuote bid offer ≡ false → (bid .0 ≤ 1000000000) × (offer .0 ≤ 1000000000)
-unfolding isBadQuote
-quote-bounds bid offer h =
-    let k = or-neither _ _ (or-neither (not (within 1 1000000000 (bid .0)) || not (within 1 1000000000 (offer .0))) (not (ltb (bid .0) (offer .0))) h .0) in
-    (most 1 1000000000 (bid .0) (not-false _ (k .0)), most 1 1000000000 (offer .0) (not-false _ (k .1)))

@@ -2,10 +2,8 @@
 use mathlib.Core.Path.{_≡_, refl}
 use mathlib.Core.List.{[], _∷_}
 use mathlib.Core.Bool.{Bool, true, false, not, _&&_}
-use Prim.Native.Nat.{ℕ, _+_, _-_, _<_, _≤_}
-use native.Mathlib.Omega.{arith}
-use lib.Dec.{eqb, ltb}
-use borrow.Author.Tests.{ltb-true, ltb-false, lt-ltb, le-ltb}
+use Prim.Native.Nat.{ℕ}
+use lib.Dec.{eqb}
 use Rattle.rules.specs.declared.Mills.{Mills}
 use Rattle.rules.specs.declared.Series.{Series}
 use Rattle.rules.specs.declared.Terms.{Terms}
@@ -16,7 +14,7 @@ use Rattle.rules.specs.Lists.{all, every}
 use Rattle.rules.specs.Order.{isYes}
 use Rattle.rules.specs.Checks.{isSkipped, putTest, callTest, simpleBuy, buyBuy, debitCredit, maximumValue}
 use Rattle.rules.specs.Class.{shapeOf}
-use Rattle.rules.specs.Market.{isBeyond, isTooFar, tickDistance}
+use Rattle.rules.specs.Market.{isTooFar, tickDistance}
 use Rattle.rules.specs.Numbers.{firstOf, rejection}
 use Rattle.rules.proofs.Tests.{and-no}
 use Rattle.rules.proofs.Numbering.{stop, skip, ended}
@@ -53,21 +51,6 @@ pub far-read : (st : Settings) (m : Market) (t : Terms) (u : Leg) {first plain f
     → r ≡ tickDistance st m t (u ∷ [])
 unfolding tickDistance all
 far-read st m t u e f g h = cc (far-grouped (eqb (t .kind) 0) (eqb (t .stop) 0) (eqb (t .manual) 0) (isTooFar st m t u))
-
--- a buy more than `d` above its reference
-pub beyond-buy : (amount reference d : ℕ) {bought : Bool} → bought ≡ true → ltb (reference + d) amount ≡ isBeyond bought amount reference d
-beyond-buy amount reference d e = rw e
-
--- an amount received more than `d` below: none is where the reference is
-pub beyond-none : (amount reference d : ℕ) {bought : Bool} → bought ≡ false → reference < d → false ≡ isBeyond bought amount reference d
-beyond-none amount reference d e h = rw (e, le-ltb (amount + d) reference (omega arith))
-
-pub beyond-sell : (amount reference d : ℕ) {bought : Bool} → bought ≡ false → d ≤ reference → ltb amount (reference - d) ≡ isBeyond bought amount reference d
-beyond-sell amount reference d e h = rw e (go (ltb (amount + d) reference) refl)
-  where
-    go : (b : Bool) → ltb (amount + d) reference ≡ b → ltb amount (reference - d) ≡ b
-    go true f = let k = ltb-true (amount + d) reference f in lt-ltb amount (reference - d) (omega arith)
-    go false f = let k = ltb-false (amount + d) reference f in le-ltb amount (reference - d) (omega arith)
 
 -- ---- the first that applies: the checks of complex orders do not
 

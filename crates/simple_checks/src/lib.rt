@@ -12,12 +12,13 @@ use rules::Market;
 use rules::Mills;
 use rules::Settings;
 use rules::Terms;
+use sides::is_beyond;
 ghost use mathlib.Core.Path.{_≡_};
 ghost use mathlib.Core.List.{[], _∷_};
 ghost use mathlib.Core.Bool.{true, not, _&&_};
 ghost use Prim.Native.Nat.{ℕ, _≤_};
 ghost use Rattle.rules.specs.Checks.{isSkipped, putTest, callTest, simpleBuy};
-ghost use Rattle.rules.specs.Market.{isBeyond, limitDistance, isTooFar, tickDistance, settingsHold, marketHolds};
+ghost use Rattle.rules.specs.Market.{limitDistance, isTooFar, tickDistance, settingsHold, marketHolds};
 ghost use Rattle.rules.specs.Numbers.{rejection};
 
 // A buy that 20 and 21 test: they skip market orders in the opening process.
@@ -51,21 +52,6 @@ fn limit_distance(st: Settings, r: Mills) -> Mills
     ensures { λ d. ⌜ (d ≡ limitDistance st r) × (d .0 ≤ 1000000) ⌝ }
 {
     distance(acceptable_ticks(st, r), tick_at(st, r))
-}
-
-// An amount received is compared with the reference less D: an amount may be as large as its type allows, and the
-// sum with D could pass that. A D above the reference rejects no sell.
-fn is_beyond(bought: bool, amount: Mills, reference: Mills, d: Mills) -> bool
-    requires { ⌜ (reference .0 ≤ 1000000000) × (d .0 ≤ 1000000) ⌝ }
-    ensures { λ r. ⌜ r ≡ isBeyond bought (amount .0) (reference .0) (d .0) ⌝ }
-{
-    if bought {
-        return reference.0 + d.0 < amount.0;
-    }
-    if reference.0 < d.0 {
-        return false;
-    }
-    amount.0 < reference.0 - d.0
 }
 
 fn is_too_far(st: Settings, m: Market, t: Terms, u: Leg) -> bool

@@ -10,23 +10,23 @@ use lib.Seq.{set-getD}
 use Rattle.rules.specs.declared.Leg.{Leg}
 use Rattle.rules.specs.Pairing.{Reached, less, pairOf, matched, reach, walk}
 use Rattle.rules.specs.Order.{noLeg}
-use Rattle.walk.specs.declared.Tally.{Tally}
+use Rattle.walk.specs.declared.PairTally.{PairTally}
 use Rattle.walk.specs.Tags.{legAt, legsFrom, together, Tagged, matchedAt, noteAt, none, noted, reached}
 use Rattle.walk.proofs.Zip.{zip-length, zip-at, zip-set}
 use Rattle.walk.proofs.Tagging.{matched-tags, note-tags, matched-group}
 use Rattle.walk.proofs.Walking.{View, view, start-legs, start-tally, met, over, put, walked-legs, walked-tally}
 
 -- what the inner loop still has to meet, after what it has met
-abbrev pub inner : List ℕ → ℕ → Bool → ℕ → List ℕ → Tally → ℕ → ℕ → ℕ → View
+abbrev pub inner : List ℕ → ℕ → Bool → ℕ → List ℕ → PairTally → ℕ → ℕ → ℕ → View
 inner tags n second root left t tx x j =
     let legs = legsFrom root second tags left in view t (take j legs) (reach (together second) (legAt root second tx x) (drop j (take n legs)))
 
 -- what the outer loop keeps: the legs from `i` on are walked, and those before it stand as they came
-pub record Outer (tags : List ℕ) (n : ℕ) (second : Bool) (root : ℕ) (left₀ left : List ℕ) (t : Tally) (i : ℕ) : Type 0 where
+pub record Outer (tags : List ℕ) (n : ℕ) (second : Bool) (root : ℕ) (left₀ left : List ℕ) (t : PairTally) (i : ℕ) : Type 0 where
   pub done : take n (legsFrom root second tags left) ≡ take i (legsFrom root second tags left₀) ++ walk (together second) (drop i (take n (legsFrom root second tags left₀))) .legs
   pub counted : t ≡ noted none (walk (together second) (drop i (take n (legsFrom root second tags left₀))) .pairs)
 
-note-none : (t : Tally) (second : Bool) (tx ty : ℕ) → t ≡ noteAt t second tx ty 0
+note-none : (t : PairTally) (second : Bool) (tx ty : ℕ) → t ≡ noteAt t second tx ty 0
 unfolding noteAt
 note-none t second tx ty = refl
 
@@ -40,7 +40,7 @@ module _ (tags : List ℕ) (tg : Tagged tags) (n : ℕ) (fits : n ≤ 16) (secon
   leg-is : (left : List ℕ) (i : ℕ) → length left ≡ 16 → i < 16 → getD (legs left) i noLeg ≡ legAt root second (getD tags i 0) (getD left i 0)
   leg-is left i l h = zip-at (legAt root second) tags left i 0 0 noLeg (omega (arith, tg .full)) (omega arith)
 
-  pub inner-turn : (left : List ℕ) (t t′ : Tally) (tx x j m : ℕ) → length left ≡ 16 → tx < 40000000000000000 → j < n
+  pub inner-turn : (left : List ℕ) (t t′ : PairTally) (tx x j m : ℕ) → length left ≡ 16 → tx < 40000000000000000 → j < n
       → m ≡ matchedAt tx x (getD tags j 0) (getD left j 0)
       → t′ ≡ noteAt t second tx (getD tags j 0) m
       → inner tags n second root (set left j (getD left j 0 - m)) t′ tx (x - m) (j + 1) ≡ inner tags n second root left t tx x j
@@ -58,7 +58,7 @@ module _ (tags : List ℕ) (tg : Tagged tags) (n : ℕ) (fits : n ≤ 16) (secon
       ∙ met (legs left) n (legs-full left l) fits (together second) t t′ (legAt root second tx x) (legAt root second tx (x - m)) (legAt root second ty (y - m)) j m h e₁ e₂ e₃ refl
 
   -- where nothing is matched, nothing changes
-  pub inner-skip : (left : List ℕ) (t : Tally) (tx x j : ℕ) → length left ≡ 16 → tx < 40000000000000000 → j < n → matchedAt tx x (getD tags j 0) (getD left j 0) ≡ 0
+  pub inner-skip : (left : List ℕ) (t : PairTally) (tx x j : ℕ) → length left ≡ 16 → tx < 40000000000000000 → j < n → matchedAt tx x (getD tags j 0) (getD left j 0) ≡ 0
       → inner tags n second root left t tx x (j + 1) ≡ inner tags n second root left t tx x j
   inner-skip left t tx x j l small h e =
       let same : set left j (getD left j 0 - 0) ≡ left = rw sub-zero (set-getD left j 0) in
@@ -67,7 +67,7 @@ module _ (tags : List ℕ) (tg : Tagged tags) (n : ℕ) (fits : n ≤ 16) (secon
       ∙ inner-turn left t t tx x j 0 l small h (sym e) (note-none t second tx (getD tags j 0))
 
   -- the leg at `i` has met all, and is put back
-  module _ (left₀ left : List ℕ) (l₀ : length left₀ ≡ 16) (l : length left ≡ 16) (t₀ t : Tally) (x i j : ℕ) (h : i < n) (last : j ≡ n)
+  module _ (left₀ left : List ℕ) (l₀ : length left₀ ≡ 16) (l : length left ≡ 16) (t₀ t : PairTally) (x i j : ℕ) (h : i < n) (last : j ≡ n)
       (kept : inner tags n second root left t (getD tags i 0) x j ≡ inner tags n second root left₀ t₀ (getD tags i 0) (getD left₀ i 0) (i + 1)) where
     q : Reached
     q = reached root tags left₀ i n second
@@ -92,7 +92,7 @@ module _ (tags : List ℕ) (tg : Tagged tags) (n : ℕ) (fits : n ≤ 16) (secon
   pub outer-start : (left : List ℕ) → length left ≡ 16 → Outer tags n second root left left none n
   outer-start left l = record { done = start-legs (legs left) n (legs-full left l) fits (together second); counted = start-tally (legs left) n (legs-full left l) fits (together second) }
 
-  pub outer-turn : (left₀ left after : List ℕ) (t t′ : Tally) (i : ℕ) → length left₀ ≡ 16 → i < n → Outer tags n second root left₀ left t (i + 1)
+  pub outer-turn : (left₀ left after : List ℕ) (t t′ : PairTally) (i : ℕ) → length left₀ ≡ 16 → i < n → Outer tags n second root left₀ left t (i + 1)
       → take n (legs after) ≡ take i (legs left) ++ (reached root tags left i n second .leg ∷ reached root tags left i n second .legs)
       → t′ ≡ noted t (reached root tags left i n second .pairs)
       → Outer tags n second root left₀ after t′ i

@@ -12,7 +12,7 @@ use Rattle.rules.specs.declared.Leg.{Leg}
 use Rattle.rules.specs.Lists.{sameBool}
 use Rattle.rules.specs.Pairing.{Pair, pairOf, matched, oneExpiry, oneStrike, isDebit}
 use Rattle.rules.proofs.Tests.{and-both}
-use Rattle.walk.specs.declared.Tally.{Tally}
+use Rattle.walk.specs.declared.PairTally.{PairTally}
 use Rattle.walk.specs.Tags.{seriesAt, legAt, together, matchedAt, debitKeys, debitAt, oneMore, noteAt, noted}
 
 abbrev Small : ℕ → Type 0
@@ -104,7 +104,7 @@ turn : (second c : Bool) (k l : ℕ) → k / 100000000 ≡ l / 100000000
 turn second true k l e = debit-keys second k l e
 turn second false k l e = debit-keys second l k (sym e)
 
-pub note-tags : (t : Tally) (root : ℕ) (second : Bool) (tx x ty y n : ℕ) → (0 < n → tx / 200000000 ≡ ty / 200000000) → noted t (pairOf (legAt root second tx x) (legAt root second ty y) n) ≡ noteAt t second tx ty n
+pub note-tags : (t : PairTally) (root : ℕ) (second : Bool) (tx x ty y n : ℕ) → (0 < n → tx / 200000000 ≡ ty / 200000000) → noted t (pairOf (legAt root second tx x) (legAt root second ty y) n) ≡ noteAt t second tx ty n
 unfolding noteAt
 note-tags t root second tx x ty y n h = go (eqb n 0) refl
   where

@@ -11,20 +11,20 @@ use Rattle.rules.specs.declared.Series.{Series}
 use Rattle.rules.specs.declared.Leg.{Leg}
 use Rattle.rules.specs.Pairing.{Pair, Reached, Walked, less, pairOf, matched, reach, walk}
 use Rattle.rules.specs.Order.{noLeg}
-use Rattle.walk.specs.declared.Tally.{Tally}
+use Rattle.walk.specs.declared.PairTally.{PairTally}
 use Rattle.walk.specs.Tags.{none, noted}
 
-noted-append : (t : Tally) (ms ns : List Pair) → noted t (ms ++ ns) ≡ noted (noted t ms) ns
+noted-append : (t : PairTally) (ms ns : List Pair) → noted t (ms ++ ns) ≡ noted (noted t ms) ns
 noted-append t [] ns = refl
 noted-append t (m ∷ ms) ns = noted-append _ ms ns
 
 -- what the inner loop keeps: `front` stands before the legs that are still to be met
 pub record View : Type 0 where
-  pub tally : Tally
+  pub tally : PairTally
   pub leg : Leg
   pub legs : List Leg
 
-abbrev pub view : Tally → List Leg → Reached → View
+abbrev pub view : PairTally → List Leg → Reached → View
 view t front q = record { tally = noted t (q .pairs); leg = q .leg; legs = front ++ q .legs }
 
 -- the first leg of those walked before is met with `m` contracts
@@ -58,7 +58,7 @@ module _ (legs : List Leg) (n : ℕ) (full : length legs ≡ 16) (fits : n ≤ 1
     start-tally = rw end
 
     -- one turn of the inner loop: the leg at `j` is met
-    pub met : (t t′ : Tally) (x x′ z : Leg) (j m : ℕ) → j < n → let y = getD legs j noLeg in
+    pub met : (t t′ : PairTally) (x x′ z : Leg) (j m : ℕ) → j < n → let y = getD legs j noLeg in
         m ≡ matched same x y → t′ ≡ noted t (pairOf x y m) → z ≡ less y m → x′ ≡ less x m →
         view t′ (take (j + 1) (set legs j z)) (reach same x′ (drop (j + 1) (take n (set legs j z))))
         ≡ view t (take j legs) (reach same x (drop j (take n legs)))
@@ -71,7 +71,7 @@ module _ (legs : List Leg) (n : ℕ) (full : length legs ≡ 16) (fits : n ≤ 1
         (λ i. record { tally = sym (noted-append t (pairOf x y m) (q .pairs)) i; leg = q .leg; legs = append-snoc (take j legs) (less y m) (q .legs) i })
 
     -- past the last leg
-    pub over : (t : Tally) (x : Leg) (j : ℕ) → j ≡ n → view t (take j legs) (reach same x (drop j (take n legs))) ≡ record { tally = t; leg = x; legs = take n legs }
+    pub over : (t : PairTally) (x : Leg) (j : ℕ) → j ≡ n → view t (take j legs) (reach same x (drop j (take n legs))) ≡ record { tally = t; leg = x; legs = take n legs }
     unfolding reach
     over t x j e = rw (e, end, append-nil (take n legs))
 
@@ -121,6 +121,6 @@ module _ (same : Series → Series → Bool) (legs now : List Leg) (n : ℕ) (fu
     unfolding walk
     walked-legs = rw (there, before, step legs n full fits i h)
 
-    pub walked-tally : (t : Tally) → t ≡ noted none (behind .pairs) → noted t (met-there .pairs) ≡ noted none (walk same (drop i (take n legs)) .pairs)
+    pub walked-tally : (t : PairTally) → t ≡ noted none (behind .pairs) → noted t (met-there .pairs) ≡ noted none (walk same (drop i (take n legs)) .pairs)
     unfolding walk
     walked-tally t g = rw (there, g, step legs n full fits i h) (sym (noted-append none (behind .pairs) (reach same (getD legs i noLeg) (behind .legs) .pairs)))

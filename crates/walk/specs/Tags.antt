@@ -9,7 +9,7 @@ use Rattle.rules.specs.declared.Series.{Series}
 use Rattle.rules.specs.declared.Leg.{Leg}
 use Rattle.rules.specs.Pairing.{Pair, Walked, Reached, reach, walk, oneExpiry, oneStrike, isDebit}
 use Rattle.rules.specs.Order.{noLeg}
-use Rattle.walk.specs.declared.Tally.{Tally}
+use Rattle.walk.specs.declared.PairTally.{PairTally}
 
 -- the series that a key says: of the first walk, or of the second
 unfoldable pub seriesAt : Bool → ℕ → Series
@@ -48,17 +48,17 @@ debitKeys second buy sell = cond second (ltb buy sell) (ltb sell buy)
 abbrev pub debitAt : Bool → ℕ → ℕ → Bool
 debitAt second tx ty = cond (eqb (tx % 2) 1) (debitKeys second (tx / 2) (ty / 2)) (debitKeys second (ty / 2) (tx / 2))
 
-abbrev pub oneMore : Tally → Bool → Tally
+abbrev pub oneMore : PairTally → Bool → PairTally
 oneMore t d = record { pairs = t .pairs + 1; debit = t .debit || d; credit = t .credit || not d }
 
-unfoldable pub noteAt : Tally → Bool → ℕ → ℕ → ℕ → Tally
+unfoldable pub noteAt : PairTally → Bool → ℕ → ℕ → ℕ → PairTally
 noteAt t second tx ty n = cond (eqb n 0) t (oneMore t (debitAt second tx ty))
 
 -- the tally of no pair, and with further pairs
-abbrev pub none : Tally
+abbrev pub none : PairTally
 none = record { pairs = 0; debit = false; credit = false }
 
-abbrev pub noted : Tally → List Pair → Tally
+abbrev pub noted : PairTally → List Pair → PairTally
 noted t [] = t
 noted t (m ∷ ms) = noted (oneMore t (isDebit (m .buy) (m .sell))) ms
 
@@ -67,7 +67,7 @@ abbrev pub reached : ℕ → List ℕ → List ℕ → ℕ → ℕ → Bool → 
 reached root tags left i n second =
     let legs = legsFrom root second tags left in reach (together second) (getD legs i noLeg) (drop (i + 1) (take n legs))
 
-pub record Reaches (tags left after : List ℕ) (i n : ℕ) (second : Bool) (t r : Tally) : Type 0 where
+pub record Reaches (tags left after : List ℕ) (i n : ℕ) (second : Bool) (t r : PairTally) : Type 0 where
   pub legs : (root : ℕ) → let q = reached root tags left i n second in
       take n (legsFrom root second tags after) ≡ take i (legsFrom root second tags left) ++ (q .leg ∷ q .legs)
   pub tally : (root : ℕ) → r ≡ noted t (reached root tags left i n second .pairs)
@@ -75,7 +75,7 @@ pub record Reaches (tags left after : List ℕ) (i n : ℕ) (second : Bool) (t r
   pub full : length after ≡ 16
 
 -- the definition's walk: what is left, and the tally of the pairs
-pub record Walks (tags left after : List ℕ) (n : ℕ) (second : Bool) (r : Tally) : Type 0 where
+pub record Walks (tags left after : List ℕ) (n : ℕ) (second : Bool) (r : PairTally) : Type 0 where
   pub legs : (root : ℕ) → take n (legsFrom root second tags after) ≡ walk (together second) (take n (legsFrom root second tags left)) .legs
   pub tally : (root : ℕ) → r ≡ noted none (walk (together second) (take n (legsFrom root second tags left)) .pairs)
   pub full : length after ≡ 16

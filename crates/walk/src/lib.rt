@@ -12,7 +12,7 @@ ghost use lib.ListN.{length};
 ghost use Rattle.walk.specs.Tags.{Tagged, matchedAt, debitKeys, noteAt, Reaches, Walks};
 
 // What is known of the pairs: their number, and whether one was a debit or a credit.
-pub struct Tally {
+pub struct PairTally {
     pub pairs: u64,
     pub debit: bool,
     pub credit: bool,
@@ -37,7 +37,7 @@ fn debit_keys(second: bool, buy: u64, sell: u64) -> bool
 }
 
 // The tally after a match of n contracts.
-fn note(t: Tally, second: bool, tx: u64, ty: u64, n: u64) -> Tally
+fn note(t: PairTally, second: bool, tx: u64, ty: u64, n: u64) -> PairTally
     requires { ⌜ t .pairs < 1000 ⌝ }
     ensures { λ r. ⌜ (r ≡ noteAt t second tx ty n) × (r .pairs ≤ t .pairs + 1) ⌝ }
 {
@@ -49,7 +49,7 @@ fn note(t: Tally, second: bool, tx: u64, ty: u64, n: u64) -> Tally
         debit_keys(second, tx / 2, ty / 2),
         debit_keys(second, ty / 2, tx / 2),
     );
-    Tally {
+    PairTally {
         pairs: t.pairs + 1,
         debit: either(t.debit, d),
         credit: either(t.credit, negated(d)),
@@ -63,8 +63,8 @@ fn reach(
     i: usize,
     n: usize,
     second: bool,
-    t: Tally,
-) -> Tally
+    t: PairTally,
+) -> PairTally
     requires { ⌜ Tagged (now tags) × (length (now left) ≡ 16) × (i < n) × (n ≤ 16) × (t .pairs < 900) ⌝ }
     ensures { λ r. ⌜ Reaches (now (tags .entry)) (now (left .entry)) (now (left .exit)) i n second t r ⌝ }
 {
@@ -90,11 +90,11 @@ fn reach(
 }
 
 // The walk over the first n legs: from the last to the first.
-pub fn walk(tags: &[u64; 16], left: &mut [u64; 16], n: usize, second: bool) -> Tally
+pub fn walk(tags: &[u64; 16], left: &mut [u64; 16], n: usize, second: bool) -> PairTally
     requires { ⌜ Tagged (now tags) × (length (now left) ≡ 16) × (n ≤ 16) ⌝ }
     ensures { λ r. ⌜ Walks (now (tags .entry)) (now (left .entry)) (now (left .exit)) n second r ⌝ }
 {
-    let mut t = Tally {
+    let mut t = PairTally {
         pairs: 0,
         debit: false,
         credit: false,

@@ -9,7 +9,7 @@ is-beyond-requires : tie.Need-is-beyond-requires
 is-beyond-requires c κs =
     let d = c .before .before .before in
     let s = d .before .before .before in
-    (s .pre .2, rw (d .before .before .comparison .ensures) (comparison-bound _ (s .args .m) (s .pre .1)), d .set-distance .ensures .1)
+    (rw (d .before .before .comparison .ensures) (comparison-bound _ (s .args .m) (s .pre .1)), d .set-distance .ensures .1)
 
 returns : tie.Need-returns
 unfolding isInverted

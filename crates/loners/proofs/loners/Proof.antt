@@ -5,7 +5,7 @@ use mathlib.Core.Bool.{Bool}
 use Prim.Native.Nat.{ℕ, _≤_, _-_, _<_, _+_}
 use native.Mathlib.Omega.{arith}
 use lib.ListN.{length, take, drop, getD}
-use Rattle.walk.specs.declared.Tally.{Tally}
+use Rattle.walk.specs.declared.PairTally.{PairTally}
 use Rattle.walk.specs.Tags.{legsFrom}
 use Rattle.loners.specs.Tallies.{aloneAt, allAlone}
 use Rattle.loners.proofs.Alone.{alone-turn, alone-end}
@@ -21,7 +21,7 @@ Inv-loop tags left n r₀ i₀ r i =
 abbrev μ-loop : tie.MeasureT-loop
 μ-loop tags left n r₀ i₀ r i = n - i
 
-same-pairs : (t : Tally) (tag left : ℕ) → aloneAt t tag left .pairs ≡ t .pairs
+same-pairs : (t : PairTally) (tag left : ℕ) → aloneAt t tag left .pairs ≡ t .pairs
 unfolding aloneAt
 same-pairs t tag left = refl
 
@@ -33,7 +33,7 @@ loop-again c =
     let h : l .i < a .n = omega arith in (
       (λ root second. alone-turn root second (a .tags .now) (a .left .now) (s .pre .0) (s .pre .1) (a .n) (s .pre .2) (l .r) (c .lone .result) (l .i) h (c .lone .ensures) ∙ l .inv .0 root second),
       omega arith,
-      ap (λ (t : Tally). t .pairs) (c .lone .ensures) ∙ same-pairs (l .r) _ _ ∙ l .inv .2,
+      ap (λ (t : PairTally). t .pairs) (c .lone .ensures) ∙ same-pairs (l .r) _ _ ∙ l .inv .2,
     )
 
 returns : tie.Need-returns Inv-loop μ-loop

@@ -10,9 +10,7 @@ returns : tie.Need-returns
 returns c = quote-refused _ _ _ _ _ _ _ (c .before .before .read-quote .ensures .number) (c .if1 .taken)
 
 rejection-requires : tie.Need-rejection-requires
-rejection-requires c κs =
-    let k = not-refused _ _ _ _ _ (sym (c .before .before .before .read-quote .ensures .number) ∙ c .before .if1 .left) in
-    (k .settings, k .market, k .bid-most, k .offer-most)
+rejection-requires c κs = not-refused _ _ _ _ _ (sym (c .before .before .before .read-quote .ensures .number) ∙ c .before .if1 .left)
 
 returns-2 : tie.Need-returns-2
 returns-2 c =

@@ -2,7 +2,7 @@ use Rattle.checks.proofs.reference.elsewhere_reference.Statement.{state
 use Rattle.checks.proofs.reference.elsewhere_reference.Tie as tie
 
 returns : tie.Need-returns
-returns c = rw (c .pick-price .ensures, c .before .either .ensures, c .before .before .both .ensures, c .before .before .before .before .is-missing .ensures, c .before .before .before .not-inside .ensures)
+returns c = rw (c .pick-price .ensures, c .before .either .ensures, c .before .before .both .ensures, c .before .before .before .before .is-missing .ensures, c .before .before .before .at-or-past .ensures)
 
 pub elsewhere-reference-spec : {M : Type 1} → statement M
 elsewhere-reference-spec =

@@ -7,7 +7,7 @@ unfolding reference elsewhereReference isUnusable
 returns c =
     let s = c .before .before .before .before .before in
     let t = s .before .before .before in
-    rw (c .pick-price6 .ensures, c .before .pick-price5 .ensures, c .before .before .pick-price4 .ensures, c .before .before .before .both .ensures, s .pick-price3 .ensures, t .elsewhere-reference .ensures, t .before .pick-price2 .ensures, t .before .before .negated .ensures, t .before .before .before .pick-price .ensures, t .before .before .before .before .is-nbbo-unusable .ensures)
+    rw (c .pick-price3 .ensures, c .before .pick-price2 .ensures, c .before .before .own .ensures, c .before .before .before .both .ensures, s .pick-price .ensures, t .elsewhere-reference .ensures, t .before .national2 .ensures, t .before .before .negated .ensures, t .before .before .before .national .ensures, t .before .before .before .before .is-nbbo-unusable .ensures)
 
 pub reference-spec : {M : Type 1} → statement M
 reference-spec =

@@ -1,8 +1,8 @@
 -- By side; a sell by the reference less the distance.
 use borrow.Author.Needs.{needs}
-use Rattle.simple_checks.proofs.Laws.{beyond-buy, beyond-none, beyond-sell}
-use Rattle.simple_checks.proofs.is_beyond.Statement.{statement}
-use Rattle.simple_checks.proofs.is_beyond.Tie as tie
+use Rattle.sides.proofs.Laws.{beyond-buy, beyond-none, beyond-sell}
+use Rattle.sides.proofs.is_beyond.Statement.{statement}
+use Rattle.sides.proofs.is_beyond.Tie as tie
 
 returns : tie.Need-returns
 returns c = let a = c .before .before .before .before .args in beyond-buy (a .amount .0) (a .reference .0) (a .d .0) (c .before .before .before .if1 .taken)
