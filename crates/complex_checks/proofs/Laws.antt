@@ -19,9 +19,9 @@ use Rattle.rules.specs.Class.{shapeOf}
 use Rattle.rules.specs.Checks.{isPositive, isNegative, simpleBuy, sizes, isBelow, sameSideBelow, buyBuy, debitCredit, maximumOf, allowance, hasMaximum, maximumValue}
 use Rattle.rules.specs.Market.{tickDistance}
 use Rattle.rules.specs.Numbers.{firstOf, rejection}
-use Rattle.rules.proofs.Tests.{and-no}
+use Rattle.rules.proofs.Tests.{and-no, and-true, or-false}
 use Rattle.rules.proofs.Numbering.{stop, skip, ended}
-use Rattle.loops.proofs.Finding.{step, over, or-false, and-true}
+use Rattle.loops.proofs.Finding.{step, over}
 use Rattle.complex_checks.specs.Complex.{LegWithin}
 
 -- ---- the sum of sizes

@@ -8,22 +8,11 @@ use native.Mathlib.Numerals.{add-one}
 use lib.ListN.{length, take, drop, getD, drop-of-length-le}
 use lib.Seq.{drop-cons, getD-take, length-take-le}
 use Rattle.rules.specs.Lists.{any, all, somePair}
-
-or-assoc : (a b c : Bool) → (a || b) || c ≡ a || (b || c)
-or-assoc true b c = refl
-or-assoc false b c = refl
-
-pub or-false : (a : Bool) → a || false ≡ a
-or-false true = refl
-or-false false = refl
+use Rattle.rules.proofs.Tests.{and-true, or-false, or-assoc}
 
 and-assoc : (a b c : Bool) → (a && b) && c ≡ a && (b && c)
 and-assoc true b c = refl
 and-assoc false b c = refl
-
-pub and-true : (a : Bool) → a && true ≡ a
-and-true true = refl
-and-true false = refl
 
 -- two elements pass the test: they are found, or the one at `i` and one from `j` on, or two behind `i`
 abbrev pub from : {A : Type 0} (d : A) (xs : List A) (n : ℕ) (f : A → A → Bool) (r : Bool) (i j : ℕ) → Bool

@@ -1,21 +1,18 @@
 -- An order of one leg: it is in its sequence, has one unit, pairs with nothing, and its side is its class.
-use mathlib.Core.Path.{_≡_, refl, sym, ap, _∙_}
-use mathlib.Core.List.{List, [], _∷_}
+use mathlib.Core.Path.{_≡_, refl, ap}
+use mathlib.Core.List.{[], _∷_}
 use mathlib.Core.Bool.{Bool, true, false, cond, _||_, _&&_}
 use Prim.Native.Nat.{ℕ, _/_, _<_}
 use native.Mathlib.Omega.{arith}
 use lib.Ieee.Nearest.{div-same}
-use lib.ListN.{length}
-use lib.Dec.{eqb}
 use borrow.Author.Tests.{ne-eqb}
 use Rattle.rules.specs.declared.Leg.{Leg}
 use Rattle.rules.specs.declared.Terms.{Terms}
 use Rattle.rules.specs.declared.Settings.{Settings}
 use Rattle.rules.specs.declared.Market.{Market}
-use Rattle.rules.specs.declared.OrderAnswer.{OrderAnswer}
 use Rattle.rules.specs.Lists.{sort, insert, all, sameBool}
 use Rattle.rules.specs.Order.{isYes, gcd, gcdWithin, commonDivisor, units}
-use Rattle.rules.specs.Pairing.{Walked, reach, walk, byStrike, byExpiry, bothWalks}
+use Rattle.rules.specs.Pairing.{reach, walk, byStrike, byExpiry, bothWalks}
 use Rattle.rules.specs.Class.{shapeOf, allOf, pairClass, classWith, classOf}
 use Rattle.rules.specs.Numbers.{rejection, judged}
 

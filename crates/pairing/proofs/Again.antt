@@ -2,12 +2,12 @@
 use mathlib.Core.Path.{_≡_, refl, sym, ap, ap₂, _∙_}
 use mathlib.Core.List.{List, [], _∷_, map, zipWith}
 use mathlib.Core.Bool.{Bool, true, false, cond}
-use Prim.Native.Nat.{ℕ, zero, suc, _+_, _-_, _*_, _/_, _%_, _≤_, _<_}
+use Prim.Native.Nat.{ℕ, zero, suc, _-_, _/_, _%_, _≤_, _<_}
 use native.Mathlib.Omega.{arith}
-use lib.ListN.{length, take, drop, getD, length-map}
+use lib.ListN.{length, take, getD, length-map}
 use lib.Seq.{length-take-le, getD-take}
 use lib.Dec.{eqb}
-use borrow.Author.Tests.{eq-eqb, ne-eqb, eqb-true}
+use borrow.Author.Tests.{eq-eqb, ne-eqb}
 use Rattle.rules.specs.declared.Series.{Series}
 use Rattle.rules.specs.declared.Leg.{Leg}
 use Rattle.rules.specs.Lists.{All}
@@ -16,7 +16,7 @@ use Rattle.rules.specs.Order.{noLeg}
 use Rattle.rules.proofs.Sorting.{all-perm, perm-sym}
 use Rattle.sorting.specs.Keys.{sortKeys, tagged, EachTwo}
 use Rattle.sorting.proofs.Laws.{sort-same, by-expiry, each-two-map, tagged-says}
-use Rattle.walk.specs.Tags.{seriesAt, legAt, legsFrom, Tagged}
+use Rattle.walk.specs.Tags.{seriesAt, legAt, legsFrom}
 use Rattle.walk.proofs.Zip.{zip-length, zip-at}
 use Rattle.again.specs.Second.{keyAgain, secondTag, Moved}
 use Rattle.tags.proofs.Places.{places-small, same-map}

@@ -10,18 +10,16 @@ use Rattle.rules.specs.declared.Leg.{Leg}
 use Rattle.rules.specs.Lists.{sameBool, all}
 use Rattle.rules.specs.Pairing.{Pair, Walked, isDebit}
 use Rattle.rules.specs.Class.{allOf, pairClass}
+use Rattle.rules.proofs.Tests.{or-false, or-assoc}
 use Rattle.walk.specs.declared.PairTally.{PairTally}
 use Rattle.walk.specs.Tags.{oneMore, none, noted}
+use Rattle.walk.proofs.Walking.{noted-append}
 use Rattle.loners.specs.Tallies.{aloneWith, allAlone, joinedTallies, tallyClass}
 
 -- a further list of pairs is tallied by itself and joined
 pub noted-together : (t : PairTally) (ms : List Pair) → noted t ms ≡ joinedTallies t (noted none ms)
 noted-together t [] = λ i. record { pairs = e i; debit = sym (or-false (t .debit)) i; credit = sym (or-false (t .credit)) i }
   where
-    or-false : (b : Bool) → b || false ≡ b
-    or-false true = refl
-    or-false false = refl
-
     e : t .pairs ≡ t .pairs + 0
     e = omega arith
 noted-together t (m ∷ ms) = noted-together (oneMore t d) ms ∙ shift t d (noted none ms) ∙ sym (ap (joinedTallies t) (noted-together (oneMore none d) ms))
@@ -29,19 +27,11 @@ noted-together t (m ∷ ms) = noted-together (oneMore t d) ms ∙ shift t d (not
     d : Bool
     d = isDebit (m .buy) (m .sell)
 
-    assoc : (a b c : Bool) → (a || b) || c ≡ a || (b || c)
-    assoc true b c = refl
-    assoc false b c = refl
-
     shift : (a : PairTally) (b : Bool) (c : PairTally) → joinedTallies (oneMore a b) c ≡ joinedTallies a (joinedTallies (oneMore none b) c)
-    shift a b c = λ i. record { pairs = f i; debit = assoc (a .debit) b (c .debit) i; credit = assoc (a .credit) (not b) (c .credit) i }
+    shift a b c = λ i. record { pairs = f i; debit = or-assoc (a .debit) b (c .debit) i; credit = or-assoc (a .credit) (not b) (c .credit) i }
       where
         f : a .pairs + 1 + c .pairs ≡ a .pairs + (0 + 1 + c .pairs)
         f = omega arith
-
-noted-append : (t : PairTally) (ms ns : List Pair) → noted t (ms ++ ns) ≡ noted (noted t ms) ns
-noted-append t [] ns = refl
-noted-append t (m ∷ ms) ns = noted-append _ ms ns
 
 pub noted-both : (ms ns : List Pair) → noted none (ms ++ ns) ≡ joinedTallies (noted none ms) (noted none ns)
 noted-both ms ns = noted-append none ms ns ∙ noted-together (noted none ms) ns

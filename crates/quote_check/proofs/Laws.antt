@@ -15,7 +15,7 @@ use Rattle.rules.specs.Order.{isYes, seriesOf}
 use Rattle.rules.specs.Checks.{putTest, callTest}
 use Rattle.rules.specs.Market.{settingsHold, marketHolds}
 use Rattle.rules.specs.Numbers.{firstOf}
-use Rattle.rules.specs.Quote.{quoteInversion, isBadQuote, quoteRefusal, quoteRejection, rejectedQuote, quoteOutcome, checkQuote}
+use Rattle.rules.specs.Quote.{quoteInversion, isBadQuote, quoteRefusal, quoteRejection, answeredQuote, quoteOutcome, checkQuote}
 use Rattle.rules.proofs.Numbering.{stop, skip, ended, none-applies}
 
 -- ---- the first check that applies
@@ -85,10 +85,10 @@ module _ (st : Settings) (m : Market) (symbol : List ℕ) (bid offer : Mills) wh
   pub quote-refused : (resting n : ℕ) → n ≡ quoteRefusal st m symbol bid offer → (n ≡ 0 → ⊥) → record { number = n; cancel = 0 } ≡ checkQuote st m symbol bid offer resting
   unfolding checkQuote
   quote-refused resting n e h =
-      let a = rejectedQuote resting (quoteRejection st m (seriesOf (partsOf symbol)) bid offer) in
+      let a = answeredQuote resting (quoteRejection st m (seriesOf (partsOf symbol)) bid offer) in
       outcome-some n a h ∙ ap (λ (k : ℕ). quoteOutcome k a) e
 
   pub quote-valid : (resting n : ℕ) → n ≡ quoteRefusal st m symbol bid offer → n ≡ 0
-      → rejectedQuote resting (quoteRejection st m (seriesOf (partsOf symbol)) bid offer) ≡ checkQuote st m symbol bid offer resting
+      → answeredQuote resting (quoteRejection st m (seriesOf (partsOf symbol)) bid offer) ≡ checkQuote st m symbol bid offer resting
   unfolding checkQuote
   quote-valid resting n e h = outcome-none _ _ (sym e ∙ h)

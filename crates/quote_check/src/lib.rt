@@ -12,9 +12,8 @@ use rules::Series;
 use rules::Settings;
 ghost use mathlib.Core.Path.{_≡_};
 ghost use mathlib.Core.Bool.{true};
-ghost use Prim.Native.Nat.{_≤_};
 ghost use Rattle.rules.specs.Market.{settingsHold, marketHolds};
-ghost use Rattle.rules.specs.Quote.{quoteRejection, rejectedQuote, checkQuote};
+ghost use Rattle.rules.specs.Quote.{quoteRejection, answeredQuote, checkQuote};
 
 pub mod refusal;
 
@@ -36,8 +35,8 @@ pub fn rejection(st: Settings, m: Market, s: Series, bid: Mills, offer: Mills) -
 }
 
 // A rejection cancels the resting quote.
-fn rejected_quote(resting: u64, number: u64) -> QuoteAnswer
-    ensures { λ r. ⌜ r ≡ rejectedQuote resting number ⌝ }
+fn answered_quote(resting: u64, number: u64) -> QuoteAnswer
+    ensures { λ r. ⌜ r ≡ answeredQuote resting number ⌝ }
 {
     QuoteAnswer {
         number: number,
@@ -64,5 +63,5 @@ pub fn check_quote(
         };
     }
     let series = q.series;
-    rejected_quote(resting, rejection(st, m, series, bid, offer))
+    answered_quote(resting, rejection(st, m, series, bid, offer))
 }

@@ -40,8 +40,8 @@ fn is_bad_quote(bid: Mills, offer: Mills) -> bool
 fn first_refusal(symbol: bool, settings: bool, market: bool, quote: bool) -> u64
     ensures { λ r. ⌜ r ≡ firstOf ((symbol, 4) ∷ (settings, 9) ∷ (market, 10) ∷ (quote, 11) ∷ []) ⌝ }
 {
-    let feed = pick(settings, 9, pick(market, 10, pick(quote, 11, 0)));
-    pick(symbol, 4, feed)
+    let others = pick(settings, 9, pick(market, 10, pick(quote, 11, 0)));
+    pick(symbol, 4, others)
 }
 
 // The symbol is read once.

@@ -10,13 +10,11 @@ use lib.Seq.{length-take-le}
 use lib.Dec.{eqb, ltb}
 use borrow.Author.Tests.{eqb-true, ne-eqb}
 use Rattle.rules.specs.declared.Terms.{Terms}
-use Rattle.rules.specs.declared.RawLeg.{RawLeg}
 use Rattle.rules.specs.declared.Leg.{Leg}
 use Rattle.rules.specs.Lists.{all, any, somePair}
 use Rattle.rules.specs.Checks.{isPositive, isNegative}
 use Rattle.rules.specs.Numbers.{isOtherRoot, isBadPrice}
-use Rattle.rules.proofs.Tests.{or-neither}
-use Rattle.loops.proofs.Finding.{or-false, and-true}
+use Rattle.rules.proofs.Tests.{and-true, or-false, or-neither}
 
 -- ---- roots: where two differ, one differs from the first
 

@@ -9,7 +9,6 @@ use lib.Dec.{eqb}
 use borrow.Author.Tests.{eqb-true}
 use Rattle.rules.specs.declared.RawLeg.{RawLeg}
 use Rattle.rules.specs.declared.Terms.{Terms}
-use Rattle.rules.specs.declared.Order.{Order}
 use Rattle.rules.specs.declared.Leg.{Leg}
 use Rattle.rules.specs.declared.Settings.{Settings}
 use Rattle.rules.specs.declared.Market.{Market}
@@ -24,8 +23,8 @@ use Rattle.rules.specs.Pairing.{byStrike, bothWalks}
 use Rattle.rules.specs.Class.{classOf}
 use Rattle.rules.specs.Numbers.{refusals, refusal, rejections, rejection, judged, refused, outcome, checkLegs, checkOrder, areWhole, checkSlices}
 use Rattle.rules.specs.Symbol.{partsOf}
-use Rattle.rules.specs.Quote.{quoteRefusals, quoteRefusal, quoteRejections, quoteRejection, rejectedQuote, quoteOutcome, checkQuote}
-use Rattle.rules.specs.Tally.{isSpent, tallied, Call, orderAnswer, checkTallied}
+use Rattle.rules.specs.Quote.{quoteRefusals, quoteRefusal, quoteRejections, quoteRejection, answeredQuote, quoteOutcome, checkQuote}
+use Rattle.rules.specs.Tally.{isBadTally, tallied, Call, orderAnswer, checkTallied}
 use Rattle.rules.specs.Demand1.{Reader, Writer, orderNumbers, OrderAnswers, OrderCheck, quoteNumbers, QuoteAnswers, QuoteCheck, TalliedAnswers, TalliedCheck}
 use Rattle.rules.proofs.Tests.{and-both}
 use Rattle.rules.proofs.Symbols.{read-cases, write-cases}
@@ -132,7 +131,7 @@ module _ (st : Settings) (m : Market) where
       no-flag true = refl
       no-flag false = refl
 
-      go : (k : ℕ) → IsQuoteRefusal k → QuoteAnswers resting (quoteOutcome k (rejectedQuote resting (quoteRejection st m (seriesOf (partsOf symbol)) bid offer)))
+      go : (k : ℕ) → IsQuoteRefusal k → QuoteAnswers resting (quoteOutcome k (answeredQuote resting (quoteRejection st m (seriesOf (partsOf symbol)) bid offer)))
       go zero h =
           let r = quote-rejection-number (seriesOf (partsOf symbol)) bid offer in
           record {
@@ -152,7 +151,7 @@ order-answers c =
     let a = c .inputs in
     order-check .slices (a .settings) (a .market) (termsOf (a .price) (a .kind) (a .stop) (a .manual) (a .opening)) (c .symbols) (c .counts)
 
-tallied-answers : (t : Tally) (a : OrderAnswer) → OrderAnswers a → (b : Bool) → isSpent t ≡ b → TalliedAnswers t (tallied t a)
+tallied-answers : (t : Tally) (a : OrderAnswer) → OrderAnswers a → (b : Bool) → isBadTally t ≡ b → TalliedAnswers t (tallied t a)
 unfolding tallied all
 tallied-answers t a h true e = rw e (record { number = List·Memᴰ·head refl; refusal = λ f. (refl, refl, refl); unchanged = λ f. refl })
 tallied-answers t a h false e =
@@ -160,4 +159,4 @@ tallied-answers t a h false e =
 
 pub tallied-check : TalliedCheck
 unfolding checkTallied
-tallied-check t c = tallied-answers t (orderAnswer c) (order-answers c) (isSpent t) refl
+tallied-check t c = tallied-answers t (orderAnswer c) (order-answers c) (isBadTally t) refl

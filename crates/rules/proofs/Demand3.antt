@@ -1,14 +1,13 @@
 -- Demand 3, from the parts: the sequence is sorted away, the class bears on the worth, and no check from 20 to 24 fires at it.
 use mathlib.Core.Path.{_≡_, refl, sym, ap, _∙_, subst₂}
 use mathlib.Core.List.{List, [], _∷_}
-use mathlib.Core.Bool.{Bool, true, false, _&&_, _||_, not, true≢false}
-use Prim.Native.Nat.{ℕ, zero, suc, _+_, _/_, _%_, _*_, _≤_, _<_}
+use mathlib.Core.Bool.{Bool, true, false, not, true≢false}
+use Prim.Native.Nat.{ℕ, zero, suc, _≤_}
 use native.Mathlib.Omega.{arith}
 use lib.ListN.{length}
-use lib.Dec.{leb, eqb}
 use lib.IntN.{ℤ, pos, negsuc, _-ℤ_}
 use lib.Signed.{_≤ℤ_}
-use borrow.Author.Tests.{le-leb, leb-true}
+use borrow.Author.Tests.{le-leb}
 use Rattle.rules.specs.declared.RawLeg.{RawLeg}
 use Rattle.rules.specs.declared.Terms.{Terms}
 use Rattle.rules.specs.declared.Order.{Order}
@@ -22,7 +21,7 @@ use Rattle.rules.specs.Order.{isYes, Lent, lentLegs, recordLegs, priceOf
 use Rattle.rules.specs.Pairing.{byStrike, bothWalks}
 use Rattle.rules.specs.Class.{classOf}
 use Rattle.rules.specs.Fair.{Has, Fair}
-use Rattle.rules.specs.Numbers.{firstOf, isBadCount, refusal, rejection, judged, refused, outcome, checkLegs, checkOrder, Inputs}
+use Rattle.rules.specs.Numbers.{isBadCount, refusal, rejection, judged, outcome, checkLegs, checkOrder, Inputs}
 use Rattle.rules.specs.Demand3.{IsWhole, IsValid, NotRejected, arrival, orderLegs, Arrivals, Demand3}
 use Rattle.rules.proofs.Tests.{and-both, or-neither, within-both}
 use Rattle.rules.proofs.Sorting.{all-perm, perm-sym, map-perm, length-perm}
@@ -31,7 +30,7 @@ use Rattle.rules.proofs.Worth.{worth, worth-perm}
 use Rattle.rules.proofs.Units.{Sized, units-perm}
 use Rattle.rules.proofs.Signs.{worth-is, up-sign, down-sign}
 use Rattle.rules.proofs.ClassWorth.{has-all}
-use Rattle.rules.proofs.Sound.{codeOf, PriceIs, price-is, has-units, class-ls, Priced, sound20, sound21, sound22, sound23, sound24}
+use Rattle.rules.proofs.Sound.{PriceIs, price-is, has-units, class-ls, sound20, sound21, sound22, sound23, sound24}
 use Rattle.rules.proofs.Sequence.{by-strike-is-perm, check-perm}
 use Rattle.rules.proofs.Slicing.{slices-are, slices-broken, whole-slices}
 

@@ -11,11 +11,11 @@ use Rattle.rules.specs.Checks.{putTest, callTest, simpleBuy, sizes, isBe
 use Rattle.rules.specs.Market.{isUnusable, elsewhereReference, reference, acceptableTicks, tickAt, limitDistance, isTooFar, tickDistance, settingsHold, marketHolds}
 use Rattle.rules.specs.Numbers.{firstOf, isBadPrice, refusal, rejection, judged, outcome, checkLegs, checkSlices}
 use Rattle.rules.specs.Quote.{comparison, setDistance, isInverted, quoteInversion, isBadQuote, quoteRefusal, quoteRejection, quoteOutcome, checkQuote}
-use Rattle.rules.specs.Tally.{isSpent}
+use Rattle.rules.specs.Tally.{isBadTally}
 use Rattle.rules.specs.Examples.{Examples, Directions, Further}
 
 computed : Examples × Directions × Further
-unfolding all any somePair every lex insert sort value numeral areDigits distance areSpaces isRootTail isRoot leapDay daysIn dayExists inLimits symbolOf partsOf isSymbol word rawLeg rawLegs priceOf legOf legsOf gcdWithin gcd commonDivisor units pairOf matched reach walk byStrike byExpiry bothWalks isDebit isVertical isButterfly isBox shapeOf hasOwnClass allOf pairClass classWith putTest callTest simpleBuy sizes isBelow sameSideBelow buyBuy debitCredit maximumOf allowance maximumValue isUnusable elsewhereReference reference acceptableTicks tickAt limitDistance isTooFar tickDistance settingsHold marketHolds firstOf isBadPrice refusal rejection judged outcome checkLegs checkSlices comparison setDistance isInverted quoteInversion isBadQuote quoteRefusal quoteRejection quoteOutcome checkQuote isSpent
+unfolding all any somePair every lex insert sort value numeral areDigits distance areSpaces isRootTail isRoot leapDay daysIn dayExists inLimits symbolOf partsOf isSymbol word rawLeg rawLegs priceOf legOf legsOf gcdWithin gcd commonDivisor units pairOf matched reach walk byStrike byExpiry bothWalks isDebit isVertical isButterfly isBox shapeOf hasOwnClass allOf pairClass classWith putTest callTest simpleBuy sizes isBelow sameSideBelow buyBuy debitCredit maximumOf allowance maximumValue isUnusable elsewhereReference reference acceptableTicks tickAt limitDistance isTooFar tickDistance settingsHold marketHolds firstOf isBadPrice refusal rejection judged outcome checkLegs checkSlices comparison setDistance isInverted quoteInversion isBadQuote quoteRefusal quoteRejection quoteOutcome checkQuote isBadTally
 computed = (refl, refl, record { orders = refl; simple = refl; inverted = refl; last = refl; full = refl })
 
 pub examples : Examples

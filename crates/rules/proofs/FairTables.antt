@@ -1,7 +1,6 @@
 -- A fair table exists, and only the order's series matter.
-use mathlib.Core.Path.{_≡_, refl, sym, ap, ap₂, _∙_, subst}
-use mathlib.Core.List.{List, [], _∷_, map, List·Memᴰ, List·Memᴰ·head, List·Memᴰ·tail}
-use mathlib.Core.Bool.{Bool, true, false}
+use mathlib.Core.Path.{_≡_, refl, ap₂}
+use mathlib.Core.List.{List, [], _∷_, map}
 use Prim.Native.Nat.{ℕ, _+_, _-_, _*_, _≤_, _<_}
 use native.Mathlib.Nat.{le-refl, add-mul, mul-le-mul-right}
 use native.Mathlib.Omega.{arith}
@@ -10,7 +9,7 @@ use Rattle.rules.specs.declared.Series.{Series}
 use Rattle.rules.specs.declared.Leg.{Leg}
 use Rattle.rules.specs.Lists.{All}
 use Rattle.rules.specs.Order.{signed, commonDivisor, divided, units, worthOf, netWorth}
-use Rattle.rules.specs.Fair.{Has, Fair, FairExists, FairAgree}
+use Rattle.rules.specs.Fair.{Has, FairExists, FairAgree}
 use Rattle.rules.proofs.Sorting.{all-map}
 use Rattle.rules.proofs.ClassWorth.{has-all}
 

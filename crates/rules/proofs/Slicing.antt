@@ -1,6 +1,6 @@
 -- The slices that a host lends are the legs end to end, and come apart into the same legs.
-use mathlib.Core.Path.{_≡_, refl, sym, ap, _∙_}
-use mathlib.Core.List.{List, [], _∷_, _++_, map}
+use mathlib.Core.Path.{_≡_, refl, ap, _∙_}
+use mathlib.Core.List.{List, [], _∷_, _++_}
 use mathlib.Core.Bool.{true, false}
 use Prim.Native.Nat.{ℕ, zero, suc, _+_, _*_, _/_, _%_}
 use native.Mathlib.Omega.{arith}
@@ -12,7 +12,7 @@ use Rattle.rules.specs.declared.Terms.{Terms}
 use Rattle.rules.specs.declared.Settings.{Settings}
 use Rattle.rules.specs.declared.Market.{Market}
 use Rattle.rules.specs.Lists.{All}
-use Rattle.rules.specs.Order.{Lent, symbolsOf, countsOf, lentLegs, rawLeg, rawLegs}
+use Rattle.rules.specs.Order.{Lent, symbolsOf, countsOf, lentLegs, rawLegs}
 use Rattle.rules.specs.Numbers.{areWhole, refused, checkLegs, checkSlices}
 use Rattle.rules.specs.Demand3.{IsWhole}
 use Rattle.rules.proofs.Tests.{and-both}

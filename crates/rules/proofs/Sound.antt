@@ -1,9 +1,9 @@
 -- At its net worth under a fair table no order is rejected by checks 20 to 24.
-use mathlib.Core.Path.{_≡_, refl, sym, ap, _∙_, subst}
+use mathlib.Core.Path.{_≡_, refl, sym, ap, _∙_}
 use mathlib.Core.List.{List, [], _∷_}
-use mathlib.Core.Bool.{Bool, true, false, cond, _&&_, _||_, not, true≢false}
+use mathlib.Core.Bool.{Bool, true, false, cond, _&&_, not, true≢false}
 use mathlib.Core.Logic.{_⊎_, inl, inr}
-use Prim.Native.Nat.{ℕ, zero, suc, _+_, _-_, _*_, _/_, _≤_, _<_, min, max}
+use Prim.Native.Nat.{ℕ, zero, suc, _+_, _-_, _*_, _≤_, _<_}
 use native.Mathlib.Nat.{div-self, mul-le-mul-left}
 use native.Mathlib.Omega.{arith}
 use lib.Dec.{ltb, leb, eqb}
@@ -20,7 +20,7 @@ use Rattle.rules.specs.declared.Market.{Market}
 use Rattle.rules.specs.Lists.{All, sameBool, all, every}
 use Rattle.rules.specs.Order.{isYes, isComplex, signedPrice, gcd, gcdWithin, commonDivisor, units}
 use Rattle.rules.specs.Pairing.{Walked, bothWalks}
-use Rattle.rules.specs.Class.{isVertical, isButterfly, isTrueButterfly, hasOwnClass, isBox, shapeOf, allOf, pairClass, classWith, classOf}
+use Rattle.rules.specs.Class.{isVertical, isButterfly, hasOwnClass, isBox, shapeOf, allOf, pairClass, classWith, classOf}
 use Rattle.rules.specs.Checks.{isLimit, isPositive, isNegative, putTest, callTest, simpleBuy, sizes, isBelow, sameSideBelow, buyBuy, debitCredit, maximumOf, allowance, hasMaximum, maximumValue}
 use Rattle.rules.specs.Fair.{Has, Fair}
 use Rattle.rules.proofs.Tests.{and-both, or-either, not-eq, passed}
@@ -28,7 +28,7 @@ use Rattle.rules.proofs.Sorting.{all-map}
 use Rattle.rules.proofs.Worth.{worth}
 use Rattle.rules.proofs.Units.{Sized, units-order}
 use Rattle.rules.proofs.Signs.{minus-up, minus-down}
-use Rattle.rules.proofs.ClassWorth.{class-worth, loners}
+use Rattle.rules.proofs.ClassWorth.{class-worth}
 use Rattle.rules.proofs.Shapes.{fly-class, vertical-max, fly-max, box-max}
 
 -- the price that is `B` less `S`

@@ -1,11 +1,11 @@
 -- Symbols: what an accepted symbol and accepted parts say of each other.
-use mathlib.Core.Path.{_≡_, refl, sym, ap, ap₂, _∙_, subst}
+use mathlib.Core.Path.{_≡_, refl, sym, ap, _∙_}
 use mathlib.Core.List.{List, [], _∷_, _++_}
 use mathlib.Core.Logic.{_⊎_, inl, inr, ⊎-elim}
-use mathlib.Core.Bool.{Bool, true, false, cond, not, _&&_, _||_, true≢false}
-use Prim.Native.Nat.{ℕ, zero, suc, _+_, _-_, _*_, _%_, _^_, _≤_, _<_}
+use mathlib.Core.Bool.{Bool, true, false, cond, _&&_, _||_, true≢false}
+use Prim.Native.Nat.{ℕ, zero, suc, _+_, _-_, _%_, _^_, _≤_, _<_}
 use native.Mathlib.Omega.{arith}
-use lib.ListN.{length, getD, take, drop}
+use lib.ListN.{length, getD, drop}
 use lib.Seq.{slice, length-slice, take-all}
 use lib.Dec.{leb, ltb, eqb}
 use borrow.Author.Tests.{leb-true, ltb-true, ltb-false, eqb-true, eqb-false, le-leb, lt-ltb, le-ltb, ne-eqb}
@@ -14,7 +14,7 @@ use Rattle.rules.specs.Limits.{within}
 use Rattle.rules.specs.Numerals.{value, numeral, areDigits}
 use Rattle.rules.specs.Symbol.{isRoot, isRootTail, areSpaces, isLetter, isDigit, isRight, isStrike, monthLengths, leapDay, daysIn, dayExists, inLimits, inLayout, symbolOf, partsOf, isSymbol, refusedRead, readSymbol, refusedWrite, writeSymbol}
 use Rattle.rules.proofs.Tests.{and-both, and-of, within-both}
-use Rattle.rules.proofs.Numerals.{numeral-length, value-numeral, numeral-digits, numeral-value, value-below, digits-append}
+use Rattle.rules.proofs.Numerals.{value-numeral, numeral-digits, numeral-value, value-below, digits-append}
 use Rattle.rules.proofs.Slices.{bytesAt, slice-bytes}
 
 -- every byte of a root is below 256

@@ -1,19 +1,16 @@
 -- The tally over lists of tallied checks: each of its numbers rises by one where a call's number passes its test.
 use mathlib.Core.Path.{_≡_, refl, sym, ap, _∙_}
-use mathlib.Core.List.{List, [], _∷_, List·Memᴰ, List·Memᴰ·head, List·Memᴰ·tail}
-use mathlib.Core.Bool.{Bool, true, false, cond, not, _&&_, _||_, true≢false}
-use Prim.Native.Nat.{ℕ, zero, suc, _+_}
+use mathlib.Core.List.{List, [], _∷_}
+use mathlib.Core.Bool.{Bool, true, false, not, _&&_, _||_, true≢false}
+use Prim.Native.Nat.{ℕ, _+_}
 use native.Mathlib.Omega.{arith}
-use lib.Dec.{eqb, leb}
-use borrow.Author.Tests.{eqb-true, eqb-false}
+use borrow.Author.Tests.{eqb-true}
 use Rattle.rules.specs.declared.OrderAnswer.{OrderAnswer}
 use Rattle.rules.specs.declared.Tally.{Tally}
 use Rattle.rules.specs.Lists.{all}
-use Rattle.rules.specs.Order.{termsOf}
 use Rattle.rules.specs.Numbers.{refused}
 use Rattle.rules.specs.Demand1.{orderNumbers}
-use Rattle.rules.specs.Tally.{isSpent, isAccepted, isRejected, isRefused, oneMore, counted, tallied, Call, orderAnswer, checkTallied, numbersOf, tallyAfter, fresh, howMany, isTwelve, Tallies, TallyTheorem}
-use Rattle.rules.proofs.Tests.{and-both, or-neither}
+use Rattle.rules.specs.Tally.{isBadTally, isAccepted, isRejected, isRefused, oneMore, counted, tallied, Call, orderAnswer, checkTallied, numbersOf, tallyAfter, fresh, howMany, isTwelve, Tallies, TallyTheorem}
 use Rattle.rules.proofs.Demand1.{passes, order-answers}
 
 -- ---- the order check never gives 12
@@ -24,11 +21,11 @@ not-twelve c = passes (λ n. not (isTwelve n)) _ orderNumbers refl (order-answer
 
 -- ---- one call
 
-spent-call : (t : Tally) (c : Call) → isSpent t ≡ true → (checkTallied t c .answer ≡ refused 12) × (checkTallied t c .tally ≡ t)
+bad-call : (t : Tally) (c : Call) → isBadTally t ≡ true → (checkTallied t c .answer ≡ refused 12) × (checkTallied t c .tally ≡ t)
 unfolding checkTallied tallied
-spent-call t c h = rw h (refl, refl)
+bad-call t c h = rw h (refl, refl)
 
-counted-call : (t : Tally) (c : Call) → isSpent t ≡ false → (checkTallied t c .answer ≡ orderAnswer c) × (checkTallied t c .tally ≡ counted t (orderAnswer c .number))
+counted-call : (t : Tally) (c : Call) → isBadTally t ≡ false → (checkTallied t c .answer ≡ orderAnswer c) × (checkTallied t c .tally ≡ counted t (orderAnswer c .number))
 unfolding checkTallied tallied
 counted-call t c h = rw h (refl, refl)
 
@@ -39,19 +36,15 @@ module _ (get : Tally → ℕ) (f : ℕ → Bool) (none : f 12 ≡ false) (step 
   moved true x y = omega arith
   moved false x y = refl
 
-  number-first : (t : Tally) (c : Call) (cs : List Call) → howMany f (numbersOf t (c ∷ cs)) ≡ oneMore (f (checkTallied t c .answer .number)) (howMany f (numbersOf (checkTallied t c .tally) cs))
-  unfolding numbersOf howMany
-  number-first t c cs = refl
-
   pub tally-of : (t : Tally) (cs : List Call) → get (tallyAfter t cs) ≡ get t + howMany f (numbersOf t cs)
   unfolding tallyAfter numbersOf howMany
   tally-of t [] = omega arith
-  tally-of t (c ∷ cs) = go (isSpent t) refl (tally-of (checkTallied t c .tally) cs)
+  tally-of t (c ∷ cs) = go (isBadTally t) refl (tally-of (checkTallied t c .tally) cs)
     where
-      go : (b : Bool) → isSpent t ≡ b → get (tallyAfter (checkTallied t c .tally) cs) ≡ get (checkTallied t c .tally) + howMany f (numbersOf (checkTallied t c .tally) cs)
+      go : (b : Bool) → isBadTally t ≡ b → get (tallyAfter (checkTallied t c .tally) cs) ≡ get (checkTallied t c .tally) + howMany f (numbersOf (checkTallied t c .tally) cs)
           → get (tallyAfter (checkTallied t c .tally) cs) ≡ get t + oneMore (f (checkTallied t c .answer .number)) (howMany f (numbersOf (checkTallied t c .tally) cs))
       go true e ih =
-          let k = spent-call t c e in
+          let k = bad-call t c e in
           let zero-more : oneMore (f (checkTallied t c .answer .number)) (howMany f (numbersOf (checkTallied t c .tally) cs)) ≡ howMany f (numbersOf (checkTallied t c .tally) cs) =
           ap (λ (b : Bool). oneMore b (howMany f (numbersOf (checkTallied t c .tally) cs))) (ap (λ (a : OrderAnswer). f (a .number)) (k .0) ∙ none)
           in
@@ -66,10 +59,6 @@ module _ (get : Tally → ℕ) (f : ℕ → Bool) (none : f 12 ≡ false) (step 
           ∙ ap (λ (a : OrderAnswer). get t + oneMore (f (a .number)) rest) (sym (k .0))
 
 -- ---- the theorem
-
-not-true : (b : Bool) → not b ≡ true → b ≡ false
-not-true true h = absurd (true≢false (sym h))
-not-true false h = refl
 
 and-yes : (b c : Bool) → c ≡ true → b && c ≡ b
 and-yes true c h = h
@@ -104,10 +93,10 @@ tallies cs =
     from-zero x = omega arith
 
 same-number : (t : Tally) (c : Call) → (checkTallied t c .answer .number ≡ 12 → ⊥) → checkTallied t c .answer ≡ orderAnswer c
-same-number t c h = go (isSpent t) refl
+same-number t c h = go (isBadTally t) refl
   where
-    go : (b : Bool) → isSpent t ≡ b → checkTallied t c .answer ≡ orderAnswer c
-    go true e = absurd (h (ap (λ (a : OrderAnswer). a .number) (spent-call t c e .0)))
+    go : (b : Bool) → isBadTally t ≡ b → checkTallied t c .answer ≡ orderAnswer c
+    go true e = absurd (h (ap (λ (a : OrderAnswer). a .number) (bad-call t c e .0)))
     go false e = counted-call t c e .0
 
 -- exactly one of the three kinds rises
@@ -128,10 +117,10 @@ unfolding counted
 sum-of t n h = let k = one-kind n (t .refused) (t .accepted) (t .rejected) in ap (λ (x : ℕ). x + 1) h ∙ sym k
 
 keeps-sum : (t : Tally) (c : Call) → t .seen ≡ t .refused + t .accepted + t .rejected → let u = checkTallied t c .tally in u .seen ≡ u .refused + u .accepted + u .rejected
-keeps-sum t c h = go (isSpent t) refl
+keeps-sum t c h = go (isBadTally t) refl
   where
-    go : (b : Bool) → isSpent t ≡ b → let u = checkTallied t c .tally in u .seen ≡ u .refused + u .accepted + u .rejected
-    go true e = rw (spent-call t c e .1) h
+    go : (b : Bool) → isBadTally t ≡ b → let u = checkTallied t c .tally in u .seen ≡ u .refused + u .accepted + u .rejected
+    go true e = rw (bad-call t c e .1) h
     go false e = rw (counted-call t c e .1) (sum-of t (orderAnswer c .number) h)
 
 pub tally-theorem : TallyTheorem

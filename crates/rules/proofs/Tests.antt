@@ -1,6 +1,6 @@
 -- Tests that are joined.
 use mathlib.Core.Path.{_≡_, refl, sym}
-use mathlib.Core.List.{List, [], _∷_}
+use mathlib.Core.List.{List, [], _∷_, _++_}
 use mathlib.Core.Logic.{_⊎_, inl, inr}
 use mathlib.Core.Bool.{Bool, true, false, not, _&&_, _||_, true≢false, Bool·beq}
 use Prim.Native.Nat.{ℕ, _≤_}
@@ -26,6 +26,18 @@ and-no false = refl
 pub and-false : (a b : Bool) → a && false && b ≡ false
 and-false true b = refl
 and-false false b = refl
+
+pub and-true : (a : Bool) → a && true ≡ a
+and-true true = refl
+and-true false = refl
+
+pub or-false : (a : Bool) → a || false ≡ a
+or-false true = refl
+or-false false = refl
+
+pub or-assoc : (a b c : Bool) → (a || b) || c ≡ a || (b || c)
+or-assoc true b c = refl
+or-assoc false b c = refl
 
 pub or-either : (a b : Bool) → a || b ≡ true → (a ≡ true) ⊎ (b ≡ true)
 or-either true b h = inl refl
@@ -62,3 +74,13 @@ pub passed : (bs : List Bool) → every bs ≡ true → All (λ b. b ≡ true) b
 unfolding every
 passed [] h = tt
 passed (b ∷ bs) h = let k = and-both b (every bs) h in (k .0, passed bs (k .1))
+
+every-append : (xs ys : List Bool) → every xs && every ys ≡ every (xs ++ ys)
+unfolding every
+every-append [] ys = refl
+every-append (true ∷ xs) ys = every-append xs ys
+every-append (false ∷ xs) ys = refl
+
+-- two groups of tests
+pub joined : (xs ys : List Bool) {r a b : Bool} → r ≡ a && b → a ≡ every xs → b ≡ every ys → r ≡ every (xs ++ ys)
+joined xs ys e p q = cc (every-append xs ys)

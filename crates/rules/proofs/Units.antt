@@ -1,8 +1,8 @@
 -- Unit counts: dividing by the common divisor keeps which side is worth more, and the divisor does not depend on the sequence.
-use mathlib.Core.Path.{_≡_, refl, subst}
+use mathlib.Core.Path.{_≡_, subst}
 use mathlib.Core.List.{List, [], _∷_, map}
 use mathlib.Core.Bool.{Bool, true, false, cond}
-use Prim.Native.Nat.{ℕ, _+_, _*_, _/_, _≤_, _<_, _∣_}
+use Prim.Native.Nat.{ℕ, _*_, _/_, _≤_, _<_, _∣_}
 use native.Mathlib.Nat.{dvd-refl, dvd-zero, dvd-trans, dvd-antisymm, div-mul-cancel, pos-of-dvd-of-pos, le-of-mul-le-mul-right}
 use native.Mathlib.Omega.{arith}
 use Rattle.rules.specs.declared.Series.{Series}
@@ -11,7 +11,7 @@ use Rattle.rules.specs.Lists.{All, Perm, sameBool}
 use Rattle.rules.specs.Order.{commonDivisor, divided, units}
 use Rattle.rules.proofs.Divisor.{gcd-divides, gcd-greatest}
 use Rattle.rules.proofs.Sorting.{all-perm, perm-sym, map-perm}
-use Rattle.rules.proofs.Worth.{legWorth, worth}
+use Rattle.rules.proofs.Worth.{worth}
 
 divides-all : (g : ℕ) (ls : List Leg) → g ∣ commonDivisor ls → All (λ l. g ∣ l .size) ls
 unfolding commonDivisor

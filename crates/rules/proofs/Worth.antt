@@ -1,5 +1,5 @@
 -- A walk keeps, for each side, the worth of all contracts under any premiums, and every pair that it makes is of one group.
-use mathlib.Core.Path.{_≡_, refl, sym, ap, _∙_}
+use mathlib.Core.Path.{_≡_, refl, ap, _∙_}
 use mathlib.Core.List.{List, [], _∷_, _++_}
 use mathlib.Core.Bool.{Bool, true, false, cond, _&&_, not}
 use Prim.Native.Nat.{ℕ, zero, suc, _+_, _-_, _*_, _≤_, min}
@@ -8,7 +8,7 @@ use native.Mathlib.Omega.{arith}
 use Rattle.rules.specs.declared.Series.{Series}
 use Rattle.rules.specs.declared.Leg.{Leg}
 use Rattle.rules.specs.Lists.{All, Perm, none, keep, swap, then, sameBool}
-use Rattle.rules.specs.Pairing.{Pair, Walked, Reached, pairOf, less, matched, reach, walk, oneExpiry, oneStrike, byExpiry, bothWalks}
+use Rattle.rules.specs.Pairing.{Pair, Walked, pairOf, less, matched, reach, walk, oneExpiry, oneStrike, byExpiry, bothWalks}
 use Rattle.rules.proofs.Tests.{and-both}
 use Rattle.rules.proofs.Sorting.{all-append, sort-is-perm}
 

@@ -1,7 +1,7 @@
 -- Document 01, Class and shape. Unit legs come in the first walk's sequence, latest walked first: puts by expiry and then from the lowest strike up, then calls by expiry and from the highest strike down. Every shape is of one expiry.
 use mathlib.Core.List.{List, [], _∷_}
 use mathlib.Core.Bool.{Bool, true, false, cond, not, _&&_, _||_}
-use Prim.Native.Nat.{ℕ, _+_, _-_, _*_, min}
+use Prim.Native.Nat.{ℕ, _+_, _*_}
 use lib.Dec.{eqb, leb, ltb}
 use Rattle.rules.specs.declared.Leg.{Leg}
 use Rattle.rules.specs.Lists.{sameBool, all, every}

@@ -1,13 +1,10 @@
 -- Document 01, Examples, as the host lends them.
 use mathlib.Core.Path.{_≡_}
-use mathlib.Core.List.{List, [], _∷_, _++_, reverse}
-use mathlib.Core.Bool.{Bool, true, false, cond}
+use mathlib.Core.List.{List, [], _∷_, reverse}
+use mathlib.Core.Bool.{true, false, cond}
 use Prim.Native.Nat.{ℕ, suc, _-_, _*_, _^_}
 use lib.Dec.{eqb}
 use lib.IntN.{ℤ, pos, negsuc, negℤ}
-use Rattle.rules.specs.declared.Mills.{Mills}
-use Rattle.rules.specs.declared.Ticks.{Ticks}
-use Rattle.rules.specs.declared.SymbolParts.{SymbolParts}
 use Rattle.rules.specs.declared.Terms.{Terms}
 use Rattle.rules.specs.declared.Settings.{Settings}
 use Rattle.rules.specs.declared.Market.{Market}
@@ -19,7 +16,7 @@ use Rattle.rules.specs.Order.{Lent, symbolsOf, countsOf, termsOf}
 use Rattle.rules.specs.Market.{marketOf}
 use Rattle.rules.specs.Numbers.{checkSlices}
 use Rattle.rules.specs.Quote.{checkQuote}
-use Rattle.rules.specs.Tally.{isSpent}
+use Rattle.rules.specs.Tally.{isBadTally}
 
 -- "all checks on; net increment 10, both ticks 10, every ATD 5, set ticks 4, percentage 300 (3 percent), presets 0 and 600; neither adjusted nor European unless said"
 abbrev pub exampleSettings : ℕ → Settings
@@ -241,5 +238,5 @@ pub record Further : Type 0 where
   pub orders : givens maxima ≡ expecteds maxima
   pub simple : singleGivens singles ≡ singleExpecteds singles
   pub inverted : quoteGivens quotes ≡ quoteExpecteds quotes
-  pub last : isSpent (record { seen = 999999; refused = 999999; accepted = 0; rejected = 0 }) ≡ false
-  pub full : isSpent (record { seen = 1000000; refused = 1000000; accepted = 0; rejected = 0 }) ≡ true
+  pub last : isBadTally (record { seen = 999999; refused = 999999; accepted = 0; rejected = 0 }) ≡ false
+  pub full : isBadTally (record { seen = 1000000; refused = 1000000; accepted = 0; rejected = 0 }) ≡ true

@@ -1,7 +1,7 @@
 -- Document 01, Number and its author: the order check's whole answer.
 use mathlib.Core.List.{List, [], _∷_}
-use mathlib.Core.Bool.{Bool, true, false, cond, not, _&&_, _||_}
-use Prim.Native.Nat.{ℕ, zero, suc, _+_, _-_, _*_, _/_, _%_}
+use mathlib.Core.Bool.{Bool, cond, not, _&&_, _||_}
+use Prim.Native.Nat.{ℕ, zero, suc, _*_, _/_, _%_}
 use lib.ListN.{length}
 use lib.Dec.{eqb, ltb}
 use lib.IntN.{ℤ}
@@ -16,7 +16,7 @@ use Rattle.rules.specs.Limits.{within}
 use Rattle.rules.specs.Lists.{sameBool, all, any, somePair}
 use Rattle.rules.specs.Symbol.{isSymbol}
 use Rattle.rules.specs.Order.{isYes, rawLegs, recordLegs, termsOf, legsOf, units, isSimple}
-use Rattle.rules.specs.Pairing.{Walked, byStrike, bothWalks}
+use Rattle.rules.specs.Pairing.{byStrike, bothWalks}
 use Rattle.rules.specs.Class.{shapeOf, classOf}
 use Rattle.rules.specs.Checks.{isPositive, isNegative, putTest, callTest, simpleBuy, buyBuy, debitCredit, maximumValue}
 use Rattle.rules.specs.Market.{tickDistance, settingsHold, marketHolds}

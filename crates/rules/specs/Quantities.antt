@@ -1,5 +1,5 @@
 -- Document 01, Quantities: money in mills, a distance in ticks is kept apart from a price in mills.
-use Prim.Native.Nat.{ℕ, _*_}
+use Prim.Native.Nat.{_*_}
 use Rattle.rules.specs.declared.Mills.{Mills}
 use Rattle.rules.specs.declared.Ticks.{Ticks}
 

@@ -68,8 +68,8 @@ unfoldable pub quoteRejection : Settings → Market → Series → Mills → Mil
 quoteRejection st m s bid offer = firstOf (quoteRejections st m s bid offer)
 
 -- "Its answer is the number and the resting-quote cancel flag, set if 20, 21 or 26 rejects a quote with one resting, else clear."
-abbrev pub rejectedQuote : ℕ → ℕ → QuoteAnswer
-rejectedQuote resting n = record { number = n; cancel = cond (isYes resting && not (eqb n 0)) 1 0 }
+abbrev pub answeredQuote : ℕ → ℕ → QuoteAnswer
+answeredQuote resting n = record { number = n; cancel = cond (isYes resting && not (eqb n 0)) 1 0 }
 
 -- by the number of the refusal, 0 for a quote that is not refused
 unfoldable pub quoteOutcome : ℕ → QuoteAnswer → QuoteAnswer
@@ -79,4 +79,4 @@ quoteOutcome (suc n) answer = record { number = suc n; cancel = 0 }
 -- the quote check: a symbol, a bid, an offer and a mark for a resting quote
 unfoldable pub checkQuote : Settings → Market → List ℕ → Mills → Mills → ℕ → QuoteAnswer
 checkQuote st m symbol bid offer resting =
-    quoteOutcome (quoteRefusal st m symbol bid offer) (rejectedQuote resting (quoteRejection st m (seriesOf (partsOf symbol)) bid offer))
+    quoteOutcome (quoteRefusal st m symbol bid offer) (answeredQuote resting (quoteRejection st m (seriesOf (partsOf symbol)) bid offer))

@@ -2,7 +2,7 @@
 use mathlib.Core.Path.{_≡_}
 use mathlib.Core.List.{List, [], _∷_}
 use mathlib.Core.Bool.{Bool, cond, not, _&&_, _||_}
-use Prim.Native.Nat.{ℕ, zero, suc, _+_}
+use Prim.Native.Nat.{ℕ, _+_}
 use lib.Dec.{eqb, leb}
 use Rattle.rules.specs.declared.OrderAnswer.{OrderAnswer}
 use Rattle.rules.specs.declared.Tally.{Tally}
@@ -11,8 +11,8 @@ use Rattle.rules.specs.Limits.{within}
 use Rattle.rules.specs.Numbers.{refused, Inputs, answerTo}
 
 -- "12 a tally that has seen 1,000,000 or more, or whose seen is not refused, accepted and rejected together": the true sum, not that of a word
-unfoldable pub isSpent : Tally → Bool
-isSpent t = leb 1000000 (t .seen) || not (eqb (t .seen) (t .refused + t .accepted + t .rejected))
+unfoldable pub isBadTally : Tally → Bool
+isBadTally t = leb 1000000 (t .seen) || not (eqb (t .seen) (t .refused + t .accepted + t .rejected))
 
 -- 0 accepts, 20 to 26 are a check's rejections, any other number is a refusal
 abbrev pub isAccepted : ℕ → Bool
@@ -40,7 +40,7 @@ counted t n =
 
 -- "12 comes first"; "1 to 12 return zeros elsewhere, a tally apart"; "tally unchanged"
 unfoldable pub tallied : Tally → OrderAnswer → TalliedAnswer
-tallied t answer = record { answer = cond (isSpent t) (refused 12) answer; tally = cond (isSpent t) t (counted t (answer .number)) }
+tallied t answer = record { answer = cond (isBadTally t) (refused 12) answer; tally = cond (isBadTally t) t (counted t (answer .number)) }
 
 -- one call of the tallied check: what the order check is called with
 pub record Call : Type 0 where

@@ -1,6 +1,6 @@
 -- The definitions as the code computes them.
 use mathlib.Core.Path.{_≡_, refl}
-use mathlib.Core.List.{List, [], _∷_, _++_}
+use mathlib.Core.List.{List, [], _∷_}
 use mathlib.Core.Bool.{Bool, true, false, not, _&&_}
 use Prim.Native.Nat.{ℕ, zero, suc, _+_, _-_, _*_, min, max}
 use native.Mathlib.Omega.{arith}
@@ -14,18 +14,9 @@ use Rattle.rules.specs.Lists.{every}
 use Rattle.rules.specs.Pairing.{oneExpiry}
 use Rattle.rules.specs.Order.{legsIn}
 use Rattle.rules.specs.Class.{strikeOf, isOf, opposite, isVertical, between, isButterfly, isTrueButterfly, shapeOf}
+use Rattle.rules.proofs.Tests.{joined}
 use Rattle.strikes.proofs.Listed.{shown}
 use Rattle.shape.specs.Box.{boxSeries, boxSides}
-
-every-append : (xs ys : List Bool) → every xs && every ys ≡ every (xs ++ ys)
-unfolding every
-every-append [] ys = refl
-every-append (true ∷ xs) ys = every-append xs ys
-every-append (false ∷ xs) ys = refl
-
--- two parts of a list of tests
-pub joined : (xs ys : List Bool) {x y z : Bool} → x ≡ every xs → y ≡ every ys → z ≡ x && y → z ≡ every (xs ++ ys)
-joined xs ys p q r = cc (every-append xs ys)
 
 every-three : (a b c : Bool) → (a && b) && c ≡ every (a ∷ b ∷ c ∷ [])
 unfolding every
@@ -61,7 +52,7 @@ pub butterfly-read : (a m b : Leg) {first second left right middle x y r : Bool}
     → r ≡ x && y
     → r ≡ isButterfly a m b
 unfolding isButterfly
-butterfly-read a m b f s l k z x y r = rw (← f, ← s, ← l, ← k, ← z) (joined _ _ x y r)
+butterfly-read a m b f s l k z x y r = rw (← f, ← s, ← l, ← k, ← z) (joined _ _ r x y)
 
 pub box-read : (p q d c : Series) {puts calls put x y r : Bool}
     → puts ≡ oneExpiry p q
@@ -72,7 +63,7 @@ pub box-read : (p q d c : Series) {puts calls put x y r : Bool}
     → r ≡ x && y
     → r ≡ every (boxSeries p q d c)
 unfolding boxSeries
-box-read p q d c f s k x y r = rw (← f, ← s, ← k) (joined _ _ x y r)
+box-read p q d c f s k x y r = rw (← f, ← s, ← k) (joined _ _ r x y)
 
 pub sides-read : (p q d c : Leg) {calls lower higher x first y r : Bool}
     → calls ≡ opposite c d
@@ -85,7 +76,7 @@ pub sides-read : (p q d c : Leg) {calls lower higher x first y r : Bool}
     → r ≡ every (boxSides p q d c)
 unfolding boxSides
 sides-read p q d c {calls} {lower} {higher} f s k x z y r =
-    rw (← f, ← s, ← k) (joined _ _ x (cc (every-three calls lower higher)) r)
+    rw (← f, ← s, ← k) (joined _ _ r x (cc (every-three calls lower higher)))
 
 -- Twice the middle strike against the sum of the outer ones, by its distances from the lower and from the higher.
 module _ (a m b : Leg) {low high : ℕ}

@@ -4,12 +4,12 @@ use mathlib.Core.Bool.{true, false}
 use Rattle.rules.specs.declared.OrderAnswer.{OrderAnswer}
 use Rattle.rules.specs.declared.Tally.{Tally}
 use Rattle.rules.specs.Numbers.{refused}
-use Rattle.rules.specs.Tally.{isSpent, counted, tallied}
+use Rattle.rules.specs.Tally.{isBadTally, counted, tallied}
 
-pub spent : (t : Tally) (a : OrderAnswer) {r : OrderAnswer} → isSpent t ≡ true → r ≡ refused 12 → record { answer = r; tally = t } ≡ tallied t a
+pub bad-tally : (t : Tally) (a : OrderAnswer) {r : OrderAnswer} → isBadTally t ≡ true → r ≡ refused 12 → record { answer = r; tally = t } ≡ tallied t a
 unfolding tallied
-spent t a h e = rw (h, e)
+bad-tally t a h e = rw (h, e)
 
-pub not-spent : (t : Tally) (a : OrderAnswer) {r : OrderAnswer} {u : Tally} → isSpent t ≡ false → r ≡ a → u ≡ counted t (r .number) → record { answer = r; tally = u } ≡ tallied t a
+pub good-tally : (t : Tally) (a : OrderAnswer) {r : OrderAnswer} {u : Tally} → isBadTally t ≡ false → r ≡ a → u ≡ counted t (r .number) → record { answer = r; tally = u } ≡ tallied t a
 unfolding tallied
-not-spent t a {r} {u} h e f = rw h (λ i. record { answer = e i; tally = (f ∙ ap (λ (x : OrderAnswer). counted t (x .number)) e) i })
+good-tally t a {r} {u} h e f = rw h (λ i. record { answer = e i; tally = (f ∙ ap (λ (x : OrderAnswer). counted t (x .number)) e) i })

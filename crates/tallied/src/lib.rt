@@ -7,12 +7,12 @@ use rules::TalliedAnswer;
 use rules::Tally;
 use rules::Terms;
 use tally::counted;
-use tally::is_spent;
+use tally::is_bad_tally;
 ghost use mathlib.Core.Path.{_≡_};
 ghost use Rattle.rules.specs.Numbers.{checkSlices};
 ghost use Rattle.rules.specs.Tally.{tallied};
 
-// A spent tally stays as it came.
+// A tally that is full, or not the sum of its parts, stays as it came.
 pub fn check_tallied(
     symbols: &[u8],
     counts: &[u8],
@@ -23,7 +23,7 @@ pub fn check_tallied(
 ) -> TalliedAnswer
     ensures { λ r. ⌜ r ≡ tallied tally (checkSlices st m t (now (symbols .entry)) (now (counts .entry))) ⌝ }
 {
-    if is_spent(tally) {
+    if is_bad_tally(tally) {
         return TalliedAnswer {
             answer: refused(12),
             tally: tally,

@@ -1,12 +1,12 @@
--- A spent tally, by comparisons that fit a word.
-use mathlib.Core.Path.{_≡_, refl, sym, ap, _∙_}
+-- A full or broken tally, by comparisons that fit a word.
+use mathlib.Core.Path.{_≡_, refl, sym}
 use mathlib.Core.Bool.{Bool, true, false, not, _||_}
 use Prim.Native.Nat.{ℕ, _+_, _-_, _≤_, _<_}
 use native.Mathlib.Omega.{arith}
 use lib.Dec.{eqb, leb}
 use borrow.Author.Tests.{leb-false, eqb-true, eqb-false, eq-eqb, ne-eqb, le-leb, lt-leb, not-false}
 use Rattle.rules.specs.declared.Tally.{Tally}
-use Rattle.rules.specs.Tally.{isSpent}
+use Rattle.rules.specs.Tally.{isBadTally}
 use Rattle.rules.proofs.Tests.{or-neither}
 
 or-true : (b : Bool) → b || true ≡ true
@@ -17,27 +17,27 @@ module _ (t : Tally) where
   abbrev sum : ℕ
   sum = t .refused + t .accepted + t .rejected
 
-  pub full : 1000000 ≤ t .seen → isSpent t ≡ true
-  unfolding isSpent
+  pub full : 1000000 ≤ t .seen → isBadTally t ≡ true
+  unfolding isBadTally
   full h = rw (le-leb 1000000 (t .seen) h)
 
-  pub broken : (t .seen ≡ sum → ⊥) → isSpent t ≡ true
-  unfolding isSpent
+  pub broken : (t .seen ≡ sum → ⊥) → isBadTally t ≡ true
+  unfolding isBadTally
   broken h = rw (ne-eqb (t .seen) sum h) (or-true (leb 1000000 (t .seen)))
 
-  whole : t .seen < 1000000 → t .seen ≡ sum → isSpent t ≡ false
-  unfolding isSpent
+  whole : t .seen < 1000000 → t .seen ≡ sum → isBadTally t ≡ false
+  unfolding isBadTally
   whole h k = rw (lt-leb 1000000 (t .seen) h, eq-eqb (t .seen) sum k)
 
-  pub last-part : t .seen < 1000000 → t .refused ≤ t .seen → t .accepted ≤ t .seen - t .refused → not (eqb (t .seen - t .refused - t .accepted) (t .rejected)) ≡ isSpent t
+  pub last-part : t .seen < 1000000 → t .refused ≤ t .seen → t .accepted ≤ t .seen - t .refused → not (eqb (t .seen - t .refused - t .accepted) (t .rejected)) ≡ isBadTally t
   last-part h k l = go (eqb (t .seen - t .refused - t .accepted) (t .rejected)) refl
     where
-      go : (b : Bool) → eqb (t .seen - t .refused - t .accepted) (t .rejected) ≡ b → not b ≡ isSpent t
+      go : (b : Bool) → eqb (t .seen - t .refused - t .accepted) (t .rejected) ≡ b → not b ≡ isBadTally t
       go true e = sym (whole h (omega (arith, eqb-true (t .seen - t .refused - t .accepted) (t .rejected) e)))
       go false e = sym (broken (λ f. eqb-false (t .seen - t .refused - t .accepted) (t .rejected) e (omega arith)))
 
-  pub bounds : isSpent t ≡ false → (t .seen < 1000000) × (t .seen ≡ sum)
-  unfolding isSpent
+  pub bounds : isBadTally t ≡ false → (t .seen < 1000000) × (t .seen ≡ sum)
+  unfolding isBadTally
   bounds h =
       let k = or-neither (leb 1000000 (t .seen)) _ h in
       (leb-false 1000000 (t .seen) (k .0), eqb-true (t .seen) sum (not-false _ (k .1)))

@@ -7,11 +7,11 @@ use rules::Tally;
 ghost use mathlib.Core.Path.{_≡_};
 ghost use mathlib.Core.Bool.{false};
 ghost use Prim.Native.Nat.{_≤_};
-ghost use Rattle.rules.specs.Tally.{isSpent, oneMore, counted};
+ghost use Rattle.rules.specs.Tally.{isBadTally, oneMore, counted};
 
 // Full, or broken. The three parts together might not fit a word, so they are taken from what was seen.
-pub fn is_spent(t: Tally) -> bool
-    ensures { λ r. ⌜ r ≡ isSpent t ⌝ }
+pub fn is_bad_tally(t: Tally) -> bool
+    ensures { λ r. ⌜ r ≡ isBadTally t ⌝ }
 {
     if 1000000 <= t.seen {
         return true;
@@ -35,7 +35,7 @@ fn one_more(b: bool, n: u64) -> u64
 
 // One more seen, and one more of the number's kind.
 pub fn counted(t: Tally, number: u64) -> Tally
-    requires { ⌜ isSpent t ≡ false ⌝ }
+    requires { ⌜ isBadTally t ≡ false ⌝ }
     ensures { λ r. ⌜ r ≡ counted t number ⌝ }
 {
     let accepted = number == 0;

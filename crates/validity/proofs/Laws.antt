@@ -8,7 +8,6 @@ use lib.Seq.{slice}
 use lib.Dec.{leb}
 use borrow.Author.Tests.{le-leb, lt-leb, not-false}
 use Rattle.rules.specs.declared.RawLeg.{RawLeg}
-use Rattle.rules.specs.declared.Leg.{Leg}
 use Rattle.rules.specs.declared.Terms.{Terms}
 use Rattle.rules.specs.declared.Settings.{Settings}
 use Rattle.rules.specs.declared.Market.{Market}
@@ -19,7 +18,7 @@ use Rattle.rules.specs.Symbol.{isRoot, inLimits, partsOf, isSymbol}
 use Rattle.rules.specs.Order.{legOf, legsOf}
 use Rattle.rules.specs.Market.{settingsHold, marketHolds}
 use Rattle.rules.specs.Numbers.{firstOf, isBadCount, isSameSeries, isOtherRoot, isBadPrice, refusal}
-use Rattle.rules.proofs.Tests.{and-both, or-neither, within-both}
+use Rattle.rules.proofs.Tests.{and-both, and-no, or-neither, within-both}
 use Rattle.rules.proofs.Symbols.{limits}
 use Rattle.rules.proofs.Numbering.{none-applies}
 use Rattle.tags.specs.Legs.{InRange}
@@ -53,15 +52,11 @@ valid-legs (r ∷ rs) h k =
 
 -- ---- the number
 
-no-more : (b : Bool) → b && false ≡ false
-no-more true = refl
-no-more false = refl
-
 pub below : (n : ℕ) → n < 1 → within 1 16 n ≡ false
 below n h = rw (lt-leb 1 n h)
 
 pub above : (n : ℕ) → 16 < n → within 1 16 n ≡ false
-above n h = rw (lt-leb n 16 h) (no-more (leb 1 n))
+above n h = rw (lt-leb n 16 h) (and-no (leb 1 n))
 
 pub inside : (n : ℕ) → 1 ≤ n → n ≤ 16 → within 1 16 n ≡ true
 inside n h k = rw (le-leb 1 n h, le-leb n 16 k)

@@ -38,9 +38,9 @@ fn first_refusal(
 ) -> u64
     ensures { λ r. ⌜ r ≡ firstOf ((symbol, 4) ∷ (count, 5) ∷ (twice, 6) ∷ (roots, 7) ∷ (price, 8) ∷ (settings, 9) ∷ (market, 10) ∷ []) ⌝ }
 {
-    let feed = pick(settings, 9, pick(market, 10, 0));
-    let pair = pick(twice, 6, pick(roots, 7, pick(price, 8, feed)));
-    pick(symbol, 4, pick(count, 5, pair))
+    let values = pick(settings, 9, pick(market, 10, 0));
+    let legs = pick(twice, 6, pick(roots, 7, pick(price, 8, values)));
+    pick(symbol, 4, pick(count, 5, legs))
 }
 
 // An order with no leg, or with too many: none is read.

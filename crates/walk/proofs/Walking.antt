@@ -14,7 +14,7 @@ use Rattle.rules.specs.Order.{noLeg}
 use Rattle.walk.specs.declared.PairTally.{PairTally}
 use Rattle.walk.specs.Tags.{none, noted}
 
-noted-append : (t : PairTally) (ms ns : List Pair) → noted t (ms ++ ns) ≡ noted (noted t ms) ns
+pub noted-append : (t : PairTally) (ms ns : List Pair) → noted t (ms ++ ns) ≡ noted (noted t ms) ns
 noted-append t [] ns = refl
 noted-append t (m ∷ ms) ns = noted-append _ ms ns
 

@@ -1,13 +1,13 @@
 -- A walk's legs as numbers: a tag for each leg (its key in the walk's sequence, doubled, and one more where it is bought), and the contracts that it still has open.
 use mathlib.Core.Path.{_≡_}
 use mathlib.Core.List.{List, [], _∷_, _++_, zipWith}
-use mathlib.Core.Bool.{Bool, true, false, cond, not, _&&_, _||_}
-use Prim.Native.Nat.{ℕ, zero, suc, _+_, _-_, _*_, _/_, _%_, _≤_, _<_, min}
+use mathlib.Core.Bool.{Bool, false, cond, not, _&&_, _||_}
+use Prim.Native.Nat.{ℕ, _+_, _-_, _/_, _%_, _≤_, _<_, min}
 use lib.ListN.{length, take, drop, getD}
 use lib.Dec.{eqb, ltb}
 use Rattle.rules.specs.declared.Series.{Series}
 use Rattle.rules.specs.declared.Leg.{Leg}
-use Rattle.rules.specs.Pairing.{Pair, Walked, Reached, reach, walk, oneExpiry, oneStrike, isDebit}
+use Rattle.rules.specs.Pairing.{Pair, Reached, reach, walk, oneExpiry, oneStrike, isDebit}
 use Rattle.rules.specs.Order.{noLeg}
 use Rattle.walk.specs.declared.PairTally.{PairTally}
 

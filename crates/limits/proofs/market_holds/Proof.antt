@@ -1,4 +1,5 @@
-use Rattle.limits.proofs.Laws.{joined, first}
+use Rattle.rules.proofs.Tests.{joined}
+use Rattle.limits.proofs.Laws.{first}
 use Rattle.rules.specs.Market.{marketHolds}
 use Rattle.limits.proofs.market_holds.Statement.{statement}
 use Rattle.limits.proofs.market_holds.Tie as tie

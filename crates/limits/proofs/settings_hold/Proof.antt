@@ -1,4 +1,5 @@
-use Rattle.limits.proofs.Laws.{joined, first}
+use Rattle.rules.proofs.Tests.{joined}
+use Rattle.limits.proofs.Laws.{first}
 use Rattle.rules.specs.Market.{settingsHold}
 use Rattle.limits.proofs.settings_hold.Statement.{statement}
 use Rattle.limits.proofs.settings_hold.Tie as tie

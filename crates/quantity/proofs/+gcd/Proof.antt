@@ -1,6 +1,6 @@
 -- One call is one step of the definition; the measure is the second number.
 use borrow.Author.Needs.{needs}
-use mathlib.Core.Path.{_≡_, sym, ap, _∙_}
+use mathlib.Core.Path.{sym, ap, _∙_}
 use Prim.Native.Nat.{ℕ, _<_, _%_}
 use native.Mathlib.Nat.{mod-lt, pos-of-ne-zero}
 use native.Mathlib.Omega.{arith}

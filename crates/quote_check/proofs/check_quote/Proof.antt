@@ -1,7 +1,7 @@
 -- A quote is refused, or valid and then judged.
 use mathlib.Core.Path.{sym, ap, _∙_}
 use Rattle.rules.specs.declared.Series.{Series}
-use Rattle.rules.specs.Quote.{quoteRejection, rejectedQuote}
+use Rattle.rules.specs.Quote.{quoteRejection, answeredQuote}
 use Rattle.quote_check.proofs.Laws.{not-refused, quote-refused, quote-valid}
 use Rattle.quote_check.proofs.check_quote.Statement.{statement}
 use Rattle.quote_check.proofs.check_quote.Tie as tie
@@ -17,8 +17,8 @@ returns-2 c =
     let q = c .before .before .before .before .before .read-quote .ensures in
     let left = c .before .before .before .if1 .left in
     let a = c .before .before .before .before .before .before .before .args in
-    c .rejected-quote .ensures
-    ∙ ap (rejectedQuote (a .resting)) (c .before .rejection .ensures ∙ ap (λ (s : Series). quoteRejection (a .st) (a .m) s (a .bid) (a .offer)) (q .series left))
+    c .answered-quote .ensures
+    ∙ ap (answeredQuote (a .resting)) (c .before .rejection .ensures ∙ ap (λ (s : Series). quoteRejection (a .st) (a .m) s (a .bid) (a .offer)) (q .series left))
     ∙ quote-valid _ _ _ _ _ _ _ (q .number) left
 
 pub check-quote-spec : {M : Type 1} → statement M

@@ -1,7 +1,7 @@
 -- The legs read so far, and a bad symbol that is found or still to be found.
 use mathlib.Core.Path.{_≡_, refl, sym, ap, _∙_}
 use mathlib.Core.Bool.{Bool, not, _||_}
-use Prim.Native.Nat.{ℕ, _≤_, _-_, _<_}
+use Prim.Native.Nat.{_≤_, _-_}
 use native.Mathlib.Omega.{arith}
 use lib.ListN.{length, take, drop, getD, length-map, length-set}
 use Rattle.rules.specs.declared.RawLeg.{RawLeg}

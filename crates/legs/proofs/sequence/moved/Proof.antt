@@ -1,10 +1,10 @@
 -- The legs of the places passed.
 use borrow.Author.Needs.{needs}
-use mathlib.Core.Path.{_≡_, refl, sym, ap, _∙_}
-use mathlib.Core.List.{List, map}
-use Prim.Native.Nat.{ℕ, _≤_, _-_, _<_, _+_, _*_, _%_}
+use mathlib.Core.Path.{_≡_, refl, sym, _∙_}
+use mathlib.Core.List.{map}
+use Prim.Native.Nat.{ℕ, _≤_, _-_, _%_}
 use native.Mathlib.Omega.{arith}
-use lib.ListN.{length, take, drop, getD, set, length-map, length-set}
+use lib.ListN.{length, take, getD, length-map, length-set}
 use Rattle.rules.specs.declared.Leg.{Leg}
 use Rattle.rules.specs.Order.{noLeg}
 use Rattle.loops.proofs.Filling.{fill-turn}

@@ -1,11 +1,10 @@
 -- The keys of the legs passed, each with its place.
 use borrow.Author.Needs.{needs}
 use mathlib.Core.Path.{_≡_, refl, sym, ap, _∙_}
-use mathlib.Core.List.{List, map}
-use Prim.Native.Nat.{ℕ, _≤_, _-_, _<_, _+_, _*_, _%_}
+use mathlib.Core.List.{map}
+use Prim.Native.Nat.{ℕ, _≤_, _-_, _<_, _+_, _*_}
 use native.Mathlib.Omega.{arith}
-use lib.ListN.{length, take, drop, getD, set, length-map, length-set}
-use Rattle.rules.specs.declared.Leg.{Leg}
+use lib.ListN.{length, take, length-map, length-set}
 use Rattle.rules.specs.Pairing.{strikeKey}
 use Rattle.rules.specs.Order.{noLeg}
 use Rattle.sorting.specs.Keys.{sortKeys, tagged}

@@ -1,11 +1,9 @@
 -- The common divisor of the legs behind.
 use borrow.Author.Needs.{needs}
-use mathlib.Core.Path.{_≡_, refl, sym, ap, _∙_}
-use mathlib.Core.List.{List, map}
-use Prim.Native.Nat.{ℕ, _≤_, _-_, _<_, _+_, _*_, _%_}
+use mathlib.Core.Path.{_≡_, sym, _∙_}
+use Prim.Native.Nat.{_≤_, _-_, _+_}
 use native.Mathlib.Omega.{arith}
-use lib.ListN.{length, take, drop, getD, set, length-map, length-set}
-use Rattle.rules.specs.declared.Leg.{Leg}
+use lib.ListN.{length, take, drop, length-map}
 use Rattle.rules.specs.Order.{commonDivisor}
 use Rattle.legs.proofs.Divisor.{divisor-start, divisor-turn}
 use Rattle.legs.proofs.units.common_divisor.Statement.{statement}

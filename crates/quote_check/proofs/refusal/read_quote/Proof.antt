@@ -1,6 +1,6 @@
 -- The number is the definition's, test for test.
 use native.Mathlib.Omega.{arith}
-use mathlib.Core.Path.{sym, ap, _∙_}
+use mathlib.Core.Path.{ap, _∙_}
 use mathlib.Core.Bool.{not}
 use Rattle.rules.specs.Order.{seriesOf}
 use Rattle.quote_check.proofs.Laws.{wrong-length, first-test}

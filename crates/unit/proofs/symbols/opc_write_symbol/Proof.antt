@@ -2,7 +2,7 @@
 use borrow.Author.Needs.{needs}
 use mathlib.Core.Path.{_≡_, sym, _∙_}
 use Prim.Native.Nat.{ℕ}
-use Rattle.rules.specs.Symbol.{SymbolWritten, writeSymbol}
+use Rattle.rules.specs.Symbol.{SymbolWritten}
 use Rattle.rules.proofs.Symbols.{handed-symbol, handed-nothing}
 use Rattle.unit.proofs.symbols.opc_write_symbol.Statement.{statement}
 use Rattle.unit.proofs.symbols.opc_write_symbol.Tie as tie

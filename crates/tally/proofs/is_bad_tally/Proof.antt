@@ -1,8 +1,8 @@
 use native.Mathlib.Omega.{arith}
 use mathlib.Core.Path.{sym}
 use Rattle.tally.proofs.Laws.{full, broken, last-part}
-use Rattle.tally.proofs.is_spent.Statement.{statement}
-use Rattle.tally.proofs.is_spent.Tie as tie
+use Rattle.tally.proofs.is_bad_tally.Statement.{statement}
+use Rattle.tally.proofs.is_bad_tally.Tie as tie
 
 returns : tie.Need-returns
 returns c = sym (full _ (c .if1 .taken))
@@ -16,5 +16,5 @@ returns-3 c = sym (broken _ (λ h. absurd (omega (arith, h, c .if3 .taken))))
 returns-4 : tie.Need-returns-4
 returns-4 c = last-part _ (omega arith) (omega arith) (omega arith)
 
-pub is-spent-spec : {M : Type 1} → statement M
-is-spent-spec = tie.close (tie.spec returns returns-2 returns-3 returns-4)
+pub is-bad-tally-spec : {M : Type 1} → statement M
+is-bad-tally-spec = tie.close (tie.spec returns returns-2 returns-3 returns-4)
