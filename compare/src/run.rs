@@ -110,6 +110,14 @@ to run it again, in compare/:
         }
     }
 
+    /// Ends a test: prints what was answered, and fails unless each of some numbers was given and so
+    /// many comparisons were made.
+    pub fn finish(&self, numbers: &[u64], comparisons: u64) {
+        self.report();
+        self.given_each("number", &self.seen.numbers, numbers.iter().copied(), 1);
+        assert!(self.comparisons >= comparisons, "{}", self.comparisons);
+    }
+
     /// Fails unless each of some numbers, every class and every shape were given at least so often,
     /// and every number of pairings that 16 legs can make a tenth of that: a run that tries nothing
     /// must not pass.

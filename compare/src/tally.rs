@@ -50,12 +50,7 @@ pub fn add(tally: Tally, answer: Answer) -> TalliedAnswer {
     let together: i128 = kinds.iter().sum();
     if together != tally.seen.into() || together >= MOST_SEEN {
         return TalliedAnswer {
-            answer: Answer {
-                number: BAD_TALLY,
-                class: 0,
-                shape: 0,
-                pairings: 0,
-            },
+            answer: Answer::refusal(BAD_TALLY),
             tally,
         };
     }
