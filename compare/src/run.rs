@@ -14,7 +14,7 @@ pub const CASE_VARIABLE: &str = "COMPARE_CASE";
 pub const NUMBERS: [u64; 16] = [0, 1, 3, 4, 5, 6, 7, 8, 9, 10, 20, 21, 22, 23, 24, 25];
 
 /// The numbers that the quote check can give.
-pub const QUOTE_NUMBERS: [u64; 9] = [0, 1, 4, 9, 10, 11, 20, 21, 26];
+const QUOTE_NUMBERS: [u64; 9] = [0, 1, 4, 9, 10, 11, 20, 21, 26];
 
 pub type Counts = BTreeMap<u64, u64>;
 

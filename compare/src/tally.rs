@@ -14,7 +14,7 @@ use std::{fmt, str::FromStr};
 pub const TALLIED: &str = "tallied";
 
 /// The number of a tally that is full or does not add up.
-pub const BAD_TALLY: u64 = 12;
+const BAD_TALLY: u64 = 12;
 
 const MOST_SEEN: i128 = 1_000_000;
 
