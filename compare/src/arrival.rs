@@ -62,6 +62,18 @@ pub struct Answer {
     pub pairings: u64,
 }
 
+impl Answer {
+    /// A refusal, which has no class, shape or pairings.
+    pub const fn refusal(number: u64) -> Self {
+        Answer {
+            number,
+            class: 0,
+            shape: 0,
+            pairings: 0,
+        }
+    }
+}
+
 pub const PRE_OPENING: u64 = 0;
 pub const OPEN: u64 = 1;
 pub const HALT: u64 = 2;
@@ -141,6 +153,13 @@ impl Settings {
             european,
         }
     }
+
+    /// The same but for the number at one place.
+    pub fn with(&self, place: usize, value: u64) -> Self {
+        let mut numbers = self.numbers();
+        numbers[place] = value;
+        Settings::of_numbers(numbers)
+    }
 }
 
 impl Market {
@@ -171,6 +190,24 @@ impl Market {
             own_bid,
             own_offer,
             close,
+        }
+    }
+
+    /// The same but for the number at one place.
+    pub fn with(&self, place: usize, value: u64) -> Self {
+        let mut numbers = self.numbers();
+        numbers[place] = value;
+        Market::of_numbers(numbers)
+    }
+
+    /// The same but for the NBB, the NBO, the own bid and the own offer.
+    pub fn with_prices(self, [nbb, nbo, own_bid, own_offer]: [u64; 4]) -> Self {
+        Market {
+            nbb,
+            nbo,
+            own_bid,
+            own_offer,
+            ..self
         }
     }
 }

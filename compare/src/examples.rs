@@ -104,6 +104,15 @@ fn calls_and_put() -> Vec<RawLeg> {
     .concat()
 }
 
+/// The purchase of T11 and of 000, Orders 1 and 2, with the underlying at $10.
+fn call_at_ten_dollars(price: i64) -> Arrival {
+    let underlying = Market {
+        underlying: 10_000,
+        ..EXAMPLE_MARKET
+    };
+    with_market(limit(&[call(MAR, 5_000).leg(1)], price), underlying)
+}
+
 fn complex_of_document_01() -> Vec<Example> {
     let t1 = legs(call, JUL, &[(-5, 20), (10, 30), (-5, 40)]);
     let t2 = |middle| legs(call, FEB, &[(10, 20), (-20, middle), (10, 35)]);
@@ -149,19 +158,14 @@ fn calendars_of_document_01() -> Vec<Example> {
 fn simple_of_document_01() -> Vec<Example> {
     let one_call = [call(MAR, 5_000).leg(1)];
     let one_put = [put(MAR, 18_000).leg(1)];
-    let underlying = Market {
-        underlying: 10_000,
-        ..EXAMPLE_MARKET
-    };
     let nbo = Market {
         nbo: 1_200,
         ..EXAMPLE_MARKET
     };
-    let known = |price| with_market(limit(&one_call, price), underlying);
     let offered = |price| with_market(limit(&one_call, price), nbo);
     collect(vec![
-        ("T11, call", known(8_000), [0, 1, 0, 0]),
-        ("T11, call", known(11_000), [21, 1, 0, 0]),
+        ("T11, call", call_at_ten_dollars(8_000), [0, 1, 0, 0]),
+        ("T11, call", call_at_ten_dollars(11_000), [21, 1, 0, 0]),
         ("T11, put", limit(&one_put, 17_999), [0, 1, 0, 0]),
         ("T11, put", limit(&one_put, 18_000), [20, 1, 0, 0]),
         ("T12", offered(1_250), [0, 1, 0, 0]),
@@ -181,20 +185,14 @@ pub fn of_filings() -> Vec<Example> {
 
 fn put_and_call_of_000() -> Vec<Example> {
     let one_put = [put(MAR, 50_000).leg(1)];
-    let one_call = [call(MAR, 5_000).leg(1)];
-    let last_sale = Market {
-        underlying: 10_000,
-        ..EXAMPLE_MARKET
-    };
-    let known = |price| with_market(limit(&one_call, price), last_sale);
     collect(vec![
         // 'one put for stock ABC with a strike price of $50 ... illogical to pay more than $50'
         ("000, put of $50", limit(&one_put, 50_001), [20, 1, 0, 0]),
         ("000, put of $50", limit(&one_put, 50_000), [20, 1, 0, 0]),
         ("000, put of $50", limit(&one_put, 49_999), [0, 1, 0, 0]),
         // 'Order 1 to buy an ABC call for $8 and Order 2 to buy an ABC call for $11'
-        ("000, Order 1", known(8_000), [0, 1, 0, 0]),
-        ("000, Order 2", known(11_000), [21, 1, 0, 0]),
+        ("000, Order 1", call_at_ten_dollars(8_000), [0, 1, 0, 0]),
+        ("000, Order 2", call_at_ten_dollars(11_000), [21, 1, 0, 0]),
     ])
 }
 

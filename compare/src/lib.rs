@@ -3,8 +3,8 @@
 //!
 //! `unit` is the library. The second implementation is `osi` for symbols, `order`, with `pairing`,
 //! `shape`, `class` and `checks` below it, for orders, `tally` for tallied ones and `quote_check` for
-//! quotes. `examples` are those of the papers, `generate` makes cases up, and `run` puts them to
-//! both and counts.
+//! quotes. `examples` are those of the papers, `generate` and `limits` make cases up, and `run`
+//! puts them to both and counts.
 #![deny(unsafe_code)]
 
 pub mod arrival;
@@ -14,6 +14,7 @@ pub mod class;
 pub mod examples;
 pub mod generate;
 pub mod legs;
+pub mod limits;
 pub mod order;
 pub mod osi;
 pub mod pairing;

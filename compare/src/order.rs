@@ -31,12 +31,7 @@ pub fn check_by_contracts(arrival: &Arrival) -> Answer {
 fn check_paired(arrival: &Arrival, pair: fn(&[Leg], bool) -> Paired) -> Answer {
     let legs = RawLegs::of(arrival);
     if let Some(number) = lowest(&refusals(arrival, &legs)) {
-        return Answer {
-            number,
-            class: 0,
-            shape: 0,
-            pairings: 0,
-        };
+        return Answer::refusal(number);
     }
     let order_legs = legs.valid();
     let units = units(&order_legs);

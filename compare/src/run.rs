@@ -14,7 +14,7 @@ pub const CASE_VARIABLE: &str = "COMPARE_CASE";
 pub const NUMBERS: [u64; 16] = [0, 1, 3, 4, 5, 6, 7, 8, 9, 10, 20, 21, 22, 23, 24, 25];
 
 /// The numbers that the quote check can give.
-pub const QUOTE_NUMBERS: [u64; 9] = [0, 1, 4, 9, 10, 11, 20, 21, 26];
+const QUOTE_NUMBERS: [u64; 9] = [0, 1, 4, 9, 10, 11, 20, 21, 26];
 
 pub type Counts = BTreeMap<u64, u64>;
 
@@ -108,6 +108,14 @@ to run it again, in compare/:
                 println!("{name}: {what:>8} {value:>2} {times:>9} times");
             }
         }
+    }
+
+    /// Ends a test: prints what was answered, and fails unless each of some numbers was given and so
+    /// many comparisons were made.
+    pub fn finish(&self, numbers: &[u64], comparisons: u64) {
+        self.report();
+        self.given_each("number", &self.seen.numbers, numbers.iter().copied(), 1);
+        assert!(self.comparisons >= comparisons, "{}", self.comparisons);
     }
 
     /// Fails unless each of some numbers, every class and every shape were given at least so often,

@@ -14,7 +14,7 @@ use std::{fmt, str::FromStr};
 pub const TALLIED: &str = "tallied";
 
 /// The number of a tally that is full or does not add up.
-pub const BAD_TALLY: u64 = 12;
+const BAD_TALLY: u64 = 12;
 
 const MOST_SEEN: i128 = 1_000_000;
 
@@ -50,12 +50,7 @@ pub fn add(tally: Tally, answer: Answer) -> TalliedAnswer {
     let together: i128 = kinds.iter().sum();
     if together != tally.seen.into() || together >= MOST_SEEN {
         return TalliedAnswer {
-            answer: Answer {
-                number: BAD_TALLY,
-                class: 0,
-                shape: 0,
-                pairings: 0,
-            },
+            answer: Answer::refusal(BAD_TALLY),
             tally,
         };
     }

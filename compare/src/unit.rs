@@ -30,151 +30,75 @@ extern "C" {
         out_len: usize,
         number: &mut u64,
     ) -> u64;
-
-    fn opc_check_order(
-        symbols: *const u8,
-        symbols_len: usize,
-        counts: *const u8,
-        counts_len: usize,
-        price: i64,
-        kind: u64,
-        stop: u64,
-        manual: u64,
-        opening: u64,
-        switch_20: u64,
-        switch_21: u64,
-        switch_22: u64,
-        switch_23: u64,
-        switch_24: u64,
-        switch_25: u64,
-        switch_26: u64,
-        tick_below_3000: u64,
-        tick_from_3000: u64,
-        net_increment: u64,
-        atd_below_1000: u64,
-        atd_to_2999: u64,
-        atd_to_9999: u64,
-        atd_from_10000: u64,
-        percentage: u64,
-        preset_minimum: u64,
-        preset_maximum: u64,
-        set_ticks: u64,
-        adjusted: u64,
-        european: u64,
-        phase: u64,
-        open_elsewhere: u64,
-        extended_hours: u64,
-        underlying: u64,
-        nbb: u64,
-        nbo: u64,
-        own_bid: u64,
-        own_offer: u64,
-        close: u64,
-        class: &mut u64,
-        shape: &mut u64,
-        pairings: &mut u64,
-    ) -> u64;
-
-    fn opc_check_order_tallied(
-        symbols: *const u8,
-        symbols_len: usize,
-        counts: *const u8,
-        counts_len: usize,
-        price: i64,
-        kind: u64,
-        stop: u64,
-        manual: u64,
-        opening: u64,
-        switch_20: u64,
-        switch_21: u64,
-        switch_22: u64,
-        switch_23: u64,
-        switch_24: u64,
-        switch_25: u64,
-        switch_26: u64,
-        tick_below_3000: u64,
-        tick_from_3000: u64,
-        net_increment: u64,
-        atd_below_1000: u64,
-        atd_to_2999: u64,
-        atd_to_9999: u64,
-        atd_from_10000: u64,
-        percentage: u64,
-        preset_minimum: u64,
-        preset_maximum: u64,
-        set_ticks: u64,
-        adjusted: u64,
-        european: u64,
-        phase: u64,
-        open_elsewhere: u64,
-        extended_hours: u64,
-        underlying: u64,
-        nbb: u64,
-        nbo: u64,
-        own_bid: u64,
-        own_offer: u64,
-        close: u64,
-        class: &mut u64,
-        shape: &mut u64,
-        pairings: &mut u64,
-        seen: &mut u64,
-        refused: &mut u64,
-        accepted: &mut u64,
-        rejected: &mut u64,
-    ) -> u64;
-
-    fn opc_check_quote(
-        symbol: *const u8,
-        symbol_len: usize,
-        bid: u64,
-        offer: u64,
-        resting: u64,
-        switch_20: u64,
-        switch_21: u64,
-        switch_22: u64,
-        switch_23: u64,
-        switch_24: u64,
-        switch_25: u64,
-        switch_26: u64,
-        tick_below_3000: u64,
-        tick_from_3000: u64,
-        net_increment: u64,
-        atd_below_1000: u64,
-        atd_to_2999: u64,
-        atd_to_9999: u64,
-        atd_from_10000: u64,
-        percentage: u64,
-        preset_minimum: u64,
-        preset_maximum: u64,
-        set_ticks: u64,
-        adjusted: u64,
-        european: u64,
-        phase: u64,
-        open_elsewhere: u64,
-        extended_hours: u64,
-        underlying: u64,
-        nbb: u64,
-        nbo: u64,
-        own_bid: u64,
-        own_offer: u64,
-        close: u64,
-        cancel: &mut u64,
-    ) -> u64;
 }
 
-/// Calls an entry that takes settings and a market, number by number, between other arguments.
-macro_rules! call_with {
-    ($entry:ident, $settings:expr, $market:expr, [$($before:expr),*], [$($after:expr),*]) => {{
-        let [s0, s1, s2, s3, s4, s5, s6, s7, s8, s9, rest @ ..] = $settings.numbers();
-        let [s10, s11, s12, s13, s14, s15, s16, s17, s18, s19] = rest;
-        let [m0, m1, m2, m3, m4, m5, m6, m7, m8] = $market.numbers();
-        $entry(
-            $($before,)*
-            s0, s1, s2, s3, s4, s5, s6, s7, s8, s9,
-            s10, s11, s12, s13, s14, s15, s16, s17, s18, s19,
-            m0, m1, m2, m3, m4, m5, m6, m7, m8,
-            $($after),*
+/// Declares an entry that takes settings and a market, number by number, between other arguments,
+/// and calls it.
+macro_rules! call {
+    ($entry:ident, $case:expr, [$($before:tt)*], [$($lent:tt)*]) => {
+        call!(
+            @ $entry, $case, [$($before)*],
+            [
+                switch_20 switch_21 switch_22 switch_23 switch_24 switch_25 switch_26
+                tick_below_3000 tick_from_3000 net_increment
+                atd_below_1000 atd_to_2999 atd_to_9999 atd_from_10000
+                percentage preset_minimum preset_maximum set_ticks adjusted european
+            ],
+            [
+                phase open_elsewhere extended_hours
+                underlying nbb nbo own_bid own_offer close
+            ],
+            [$($lent)*]
         )
+    };
+    (
+        @ $entry:ident, $case:expr, [$($before:ident: $type:ty = $value:expr),* $(,)?],
+        [$($setting:ident)*], [$($market:ident)*], [$($lent:ident: $number:expr),* $(,)?]
+    ) => {{
+        extern "C" {
+            fn $entry(
+                $($before: $type,)*
+                $($setting: u64,)*
+                $($market: u64,)*
+                $($lent: &mut u64),*
+            ) -> u64;
+        }
+        let [$($setting),*] = $case.settings.numbers();
+        let [$($market),*] = $case.market.numbers();
+        $entry($($value,)* $($setting,)* $($market,)* $(&mut $number),*)
+    }};
+}
+
+/// Calls an entry of the order check, which may be lent more than the parts of the answer.
+macro_rules! call_order {
+    ($entry:ident, $arrival:expr, [$($more:tt)*]) => {{
+        let mut answer = Answer {
+            number: UNSET,
+            class: UNSET,
+            shape: UNSET,
+            pairings: UNSET,
+        };
+        answer.number = call!(
+            $entry, $arrival,
+            [
+                symbols: *const u8 = $arrival.symbols.as_ptr(),
+                symbols_len: usize = $arrival.symbols.len(),
+                counts: *const u8 = $arrival.counts.as_ptr(),
+                counts_len: usize = $arrival.counts.len(),
+                price: i64 = $arrival.price,
+                kind: u64 = $arrival.kind,
+                stop: u64 = $arrival.stop,
+                manual: u64 = $arrival.manual,
+                opening: u64 = $arrival.opening,
+            ],
+            [
+                class: answer.class,
+                shape: answer.shape,
+                pairings: answer.pairings,
+                $($more)*
+            ]
+        );
+        answer
     }};
 }
 
@@ -226,72 +150,24 @@ pub fn write(parts: &Parts, out: &mut [u8]) -> Written {
 }
 
 pub fn check_order(arrival: &Arrival) -> Answer {
-    let (mut class, mut shape, mut pairings) = (UNSET, UNSET, UNSET);
     // SAFETY: each pointer is valid for its length, and the lent numbers are apart from each other
     // and from the bytes.
-    let number = unsafe {
-        call_with!(
-            opc_check_order,
-            arrival.settings,
-            arrival.market,
-            [
-                arrival.symbols.as_ptr(),
-                arrival.symbols.len(),
-                arrival.counts.as_ptr(),
-                arrival.counts.len(),
-                arrival.price,
-                arrival.kind,
-                arrival.stop,
-                arrival.manual,
-                arrival.opening
-            ],
-            [&mut class, &mut shape, &mut pairings]
-        )
-    };
-    Answer {
-        number,
-        class,
-        shape,
-        pairings,
-    }
+    unsafe { call_order!(opc_check_order, arrival, []) }
 }
 
 pub fn check_order_tallied(tallied: &Tallied) -> TalliedAnswer {
     let (arrival, mut tally) = (&tallied.arrival, tallied.tally);
-    let (mut class, mut shape, mut pairings) = (UNSET, UNSET, UNSET);
     // SAFETY: as for the order check, and the tally's numbers are distinct fields.
-    let number = unsafe {
-        call_with!(
-            opc_check_order_tallied,
-            arrival.settings,
-            arrival.market,
+    let answer = unsafe {
+        call_order!(
+            opc_check_order_tallied, arrival,
             [
-                arrival.symbols.as_ptr(),
-                arrival.symbols.len(),
-                arrival.counts.as_ptr(),
-                arrival.counts.len(),
-                arrival.price,
-                arrival.kind,
-                arrival.stop,
-                arrival.manual,
-                arrival.opening
-            ],
-            [
-                &mut class,
-                &mut shape,
-                &mut pairings,
-                &mut tally.seen,
-                &mut tally.refused,
-                &mut tally.accepted,
-                &mut tally.rejected
+                seen: tally.seen,
+                refused: tally.refused,
+                accepted: tally.accepted,
+                rejected: tally.rejected,
             ]
         )
-    };
-    let answer = Answer {
-        number,
-        class,
-        shape,
-        pairings,
     };
     TalliedAnswer { answer, tally }
 }
@@ -300,18 +176,16 @@ pub fn check_quote(quote: &Quote) -> QuoteAnswer {
     let mut cancel = UNSET;
     // SAFETY: the pointer is valid for its length, and the lent number is apart from the bytes.
     let number = unsafe {
-        call_with!(
-            opc_check_quote,
-            quote.settings,
-            quote.market,
+        call!(
+            opc_check_quote, quote,
             [
-                quote.symbol.as_ptr(),
-                quote.symbol.len(),
-                quote.bid,
-                quote.offer,
-                quote.resting
+                symbol: *const u8 = quote.symbol.as_ptr(),
+                symbol_len: usize = quote.symbol.len(),
+                bid: u64 = quote.bid,
+                offer: u64 = quote.offer,
+                resting: u64 = quote.resting,
             ],
-            [&mut cancel]
+            [cancel: cancel]
         )
     };
     QuoteAnswer { number, cancel }

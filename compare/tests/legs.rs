@@ -5,6 +5,7 @@
 use compare::{
     arrival::{Answer, Arrival, RawLeg},
     generate::{damage, draft, legs_of, list_of},
+    limits::every,
     order,
     random::Random,
     run::Run,
@@ -108,11 +109,9 @@ fn every_three_legs() {
             }
         }
     }
-    run.report();
-    assert_eq!(run.comparisons, 2 * (1 + 60 + 60 * 60 + 60 * 60 * 60));
-    for number in [0, 3, 5, 6, 8, 22, 23] {
-        assert!(run.given(number) > 0, "number {number}");
-    }
+    let comparisons = 2 * (1 + 60 + 60 * 60 + 60 * 60 * 60);
+    run.finish(&[0, 3, 5, 6, 8, 22, 23], comparisons);
+    assert_eq!(run.comparisons, comparisons);
 }
 
 /// Every four legs, duplicates included, counts -2 to 2 without zero, in one sequence of each.
@@ -129,11 +128,9 @@ fn every_four_legs() {
             }
         }
     }
-    run.report();
-    assert_eq!(run.comparisons, 2 * (48 * 49 * 50 * 51 / 24));
-    for number in [0, 6, 22, 23] {
-        assert!(run.given(number) > 0, "number {number}");
-    }
+    let comparisons = 2 * (48 * 49 * 50 * 51 / 24);
+    run.finish(&[0, 6, 22, 23], comparisons);
+    assert_eq!(run.comparisons, comparisons);
 }
 
 /// Six series of one type, each absent or with a count of -2 to 2: rows of strikes, equal and
@@ -159,24 +156,18 @@ fn every_six_series_of_one_type() {
                 .flat_map(|&expiry| strikes.iter().map(move |&strike| one_type(expiry, strike)));
             let symbols: Vec<[u8; 21]> = series.map(|series| series.symbol()).collect();
             // Not in a sequence that a walk could take.
-            every_count(&mut run, &[3, 0, 5, 1, 4, 2].map(|place| symbols[place]));
+            every_count(&mut run, [3, 0, 5, 1, 4, 2].map(|place| symbols[place]));
         }
     }
-    run.report();
-    assert_eq!(run.comparisons, 5 * 2 * 2 * 5_u64.pow(6));
-    for number in [0, 3, 8, 22, 23] {
-        assert!(run.given(number) > 0, "number {number}");
-    }
+    let comparisons = 5 * 2 * 2 * 5_u64.pow(6);
+    run.finish(&[0, 3, 8, 22, 23], comparisons);
+    assert_eq!(run.comparisons, comparisons);
 }
 
 /// Each symbol with each count of -2 to 2; zero leaves the leg out.
-fn every_count(run: &mut Run, symbols: &[[u8; 21]]) {
-    for code in 0..5_u32.pow(symbols.len() as u32) {
-        let count = |place: u32| i64::from(code / 5_u32.pow(place) % 5) - 2;
-        let legs = symbols
-            .iter()
-            .zip(0..)
-            .map(|(&symbol, place)| (symbol, count(place)));
+fn every_count(run: &mut Run, symbols: [[u8; 21]; 6]) {
+    for counts in every::<6, i64>(&[-2, -1, 0, 1, 2]) {
+        let legs = symbols.into_iter().zip(counts);
         let legs: Vec<RawLeg> = legs.filter(|leg| leg.1 != 0).collect();
         compare(run, &legs);
     }

@@ -15,12 +15,7 @@ use std::collections::BTreeMap;
 
 const LIMIT: u64 = 1_000_000;
 
-const REFUSED: Answer = Answer {
-    number: 12,
-    class: 0,
-    shape: 0,
-    pairings: 0,
-};
+const REFUSED: Answer = Answer::refusal(12);
 
 /// A list of tallied checks from some tally that adds up, and what was counted beside it.
 struct List {
@@ -156,9 +151,12 @@ fn adding_up(random: &mut Random, seen: u64) -> Tally {
     };
     let one = part(random, seen);
     let other = part(random, seen - one);
-    let mut kinds = [one, other, seen - one - other];
-    let first = random.index(3);
-    kinds.rotate_left(first);
+    rotated(random, seen, [one, other, seen - one - other])
+}
+
+/// The three kinds in their places, from any of them on.
+fn rotated(random: &mut Random, seen: u64, mut kinds: [u64; 3]) -> Tally {
+    kinds.rotate_left(random.index(3));
     let [refused, accepted, rejected] = kinds;
     Tally {
         seen,
@@ -213,11 +211,7 @@ const KINDS: [Kind; 20] = [
     ("right modulo 2^64", true, right_modulo_the_word),
     ("right modulo 2^64, around twice", true, |random| {
         let seen = random.between(0, LIMIT - 1);
-        let mut kinds = [u64::MAX, u64::MAX, seen + 2];
-        let first = random.index(3);
-        kinds.rotate_left(first);
-        let [refused, accepted, rejected] = kinds;
-        Tally::of_numbers([seen, refused, accepted, rejected])
+        rotated(random, seen, [u64::MAX, u64::MAX, seen + 2])
     }),
     ("a kind left out of seen", true, |random| {
         let (tally, left_out) = (any_adding_up(random, 0), random.between(1, 1_000));
@@ -263,11 +257,7 @@ fn right_modulo_the_word(random: &mut Random) -> Tally {
     let one = random.between(LIMIT, u64::MAX);
     let other = random.number() >> random.index(64);
     let last = seen.wrapping_sub(one).wrapping_sub(other);
-    let mut kinds = [one, other, last];
-    let first = random.index(3);
-    kinds.rotate_left(first);
-    let [refused, accepted, rejected] = kinds;
-    Tally::of_numbers([seen, refused, accepted, rejected])
+    rotated(random, seen, [one, other, last])
 }
 
 /// Tallies of every kind, with arrivals of every kind: 12 comes before every other number.

@@ -55,15 +55,13 @@ fn damage_lengths(random: &mut Random, arrival: &mut Arrival) {
 }
 
 pub fn damage_settings(random: &mut Random, settings: &mut Settings) {
-    let mut numbers = settings.numbers();
     let place = 7 + random.index(11); // not the switches, adjusted and European
-    numbers[place] = *random.pick(&[0, 1, 2, 1_000, 1_001, 10_001, 1_000_001, u64::MAX]);
-    *settings = Settings::of_numbers(numbers);
+    let value = *random.pick(&[0, 1, 2, 1_000, 1_001, 10_001, 1_000_001, u64::MAX]);
+    *settings = settings.with(place, value);
 }
 
 pub fn damage_market(random: &mut Random, market: &mut Market) {
-    let mut numbers = market.numbers();
-    let place = random.index(numbers.len());
-    numbers[place] = *random.pick(&[0, 1, 2, 3, 1_000_000_000, 1_000_000_001, u64::MAX]);
-    *market = Market::of_numbers(numbers);
+    let place = random.index(market.numbers().len());
+    let value = *random.pick(&[0, 1, 2, 3, 1_000_000_000, 1_000_000_001, u64::MAX]);
+    *market = market.with(place, value);
 }

@@ -1,8 +1,9 @@
 //! Checks 20 to 24.
 
-use super::{finish, hold, undetermined, MARCH};
+use super::{hold, undetermined, MARCH};
 use compare::{
     arrival::{Arrival, RawLeg},
+    limits::every_switching,
     run::Run,
     series::{call, put},
 };
@@ -47,7 +48,7 @@ fn put_strike() {
         let two = [put(MARCH, strike).leg(1), put(MARCH + 1, strike).leg(1)];
         hold(&mut run, &Arrival::limit(&two, price), 0);
     }
-    finish(&run, &[0, 8, 20], 290);
+    run.finish(&[0, 8, 20], 290);
 }
 
 #[test]
@@ -77,7 +78,7 @@ fn call_underlying() {
             }
         }
     }
-    finish(&run, &[0, 8, 21], 400);
+    run.finish(&[0, 8, 21], 400);
 }
 
 /// Calls with these counts, at rising strikes, so that none of the first three shapes arises.
@@ -85,6 +86,19 @@ fn calls(counts: &[i64], price: i64) -> Arrival {
     let legs = counts.iter().zip(1..);
     let legs = legs.map(|(&count, place)| call(MARCH, place * 1_000).leg(count));
     Arrival::limit(&legs.collect::<Vec<_>>(), price)
+}
+
+/// Nothing paid, and paid where it should be received.
+fn hold_turned(run: &mut Run, arrival: &Arrival, side: i64) {
+    let mut arrival = arrival.clone();
+    for price in [0, -side, -arrival.price, -side * 1_000_000_000_000] {
+        arrival.price = price;
+        arrival.settings.switches[2] = 1;
+        hold(run, &arrival, 22);
+        arrival.settings.switches[2] = 0;
+        let turned = price.signum() == -side;
+        hold(run, &arrival, if turned { 23 } else { 0 });
+    }
 }
 
 #[test]
@@ -109,19 +123,9 @@ fn buy_buy_sell_sell() {
                     let mut arrival = calls(&counts, amount * side);
                     arrival.settings.net_increment = increment as u64;
                     hold(&mut run, &arrival, if change < 0 { 22 } else { 0 });
-                    let limit = arrival.clone();
+                    hold_turned(&mut run, &arrival, side);
                     arrival.kind = 1;
                     hold(&mut run, &arrival, 0);
-                    arrival = limit;
-                    // Nothing paid, and paid where it should be received.
-                    for price in [0, -side, -amount * side, -side * 1_000_000_000_000] {
-                        arrival.price = price;
-                        arrival.settings.switches[2] = 1;
-                        hold(&mut run, &arrival, 22);
-                        arrival.settings.switches[2] = 0;
-                        let turned = price.signum() == -side;
-                        hold(&mut run, &arrival, if turned { 23 } else { 0 });
-                    }
                 }
             }
         }
@@ -129,7 +133,19 @@ fn buy_buy_sell_sell() {
     // Both sides: never.
     hold(&mut run, &calls(&[1, 1, 1, -1, 1], 0), 0);
     hold(&mut run, &calls(&[-1, -1, -1, 1, -1], 0), 0);
-    finish(&run, &[0, 22, 23], 1_400);
+    run.finish(&[0, 22, 23], 1_400);
+}
+
+/// A vertical of calls, one of puts, a calendar, and a ratio with a rest on the same side: debits,
+/// or turned into credits.
+fn two_legs(side: i64) -> [[RawLeg; 2]; 4] {
+    [
+        (call(MARCH, 10_000), 1, call(MARCH, 20_000)),
+        (put(MARCH, 20_000), 1, put(MARCH, 10_000)),
+        (call(MARCH + 1, 9_000), 1, call(MARCH, 9_000)),
+        (call(MARCH, 10_000), 2, call(MARCH, 20_000)),
+    ]
+    .map(|(one, count, other)| [one.leg(count * side), other.leg(-side)])
 }
 
 #[test]
@@ -139,30 +155,12 @@ fn debit_credit() {
         for price in [-1_000, -2, -1, 0, 1, 2, 1_000] {
             for kind in [0, 1] {
                 for switch in [0, 1] {
-                    let credit = side < 0;
-                    let wrong = if credit {
-                        price > 0
-                    } else {
-                        price < 0 && kind == 0
+                    let wrong = match side {
+                        1 => price < 0 && kind == 0,
+                        _ => price > 0,
                     };
                     let number = if wrong && switch == 1 { 23 } else { 0 };
-                    // A vertical of calls, one of puts, a calendar, a ratio with a bought rest.
-                    let orders = [
-                        vec![
-                            call(MARCH, 10_000).leg(side),
-                            call(MARCH, 20_000).leg(-side),
-                        ],
-                        vec![put(MARCH, 20_000).leg(side), put(MARCH, 10_000).leg(-side)],
-                        vec![
-                            call(MARCH + 1, 9_000).leg(side),
-                            call(MARCH, 9_000).leg(-side),
-                        ],
-                        vec![
-                            call(MARCH, 10_000).leg(2 * side),
-                            call(MARCH, 20_000).leg(-side),
-                        ],
-                    ];
-                    for legs in orders {
+                    for legs in two_legs(side) {
                         let mut arrival = Arrival::limit(&legs, price);
                         arrival.kind = kind;
                         arrival.settings.switches[3] = switch;
@@ -175,7 +173,7 @@ fn debit_credit() {
             }
         }
     }
-    finish(&run, &[0, 23], 270);
+    run.finish(&[0, 23], 270);
 }
 
 /// Debit orders of the three shapes with a maximum, over strikes that far apart, and two without.
@@ -239,7 +237,7 @@ fn maximum_value() {
             }
         }
     }
-    finish(&run, &[0, 24], 9_000);
+    run.finish(&[0, 24], 9_000);
 }
 
 /// Orders that several checks reject: the lowest that is switched on is given.
@@ -258,13 +256,11 @@ fn lowest_check_first() {
         (Arrival::limit(&vertical, -20_000), &[23, 24]),
     ];
     for (order, rejecting) in orders {
-        for switches in 0..1 << 7 {
-            let on = |number: u64| switches >> (number - 20) & 1;
+        for (switches, number) in every_switching(rejecting) {
             let mut arrival = order.clone();
-            arrival.settings.switches = [20, 21, 22, 23, 24, 25, 26].map(on);
-            let first = rejecting.iter().copied().find(|&number| on(number) == 1);
-            hold(&mut run, &arrival, first.unwrap_or(0));
+            arrival.settings.switches = switches;
+            hold(&mut run, &arrival, number);
         }
     }
-    finish(&run, &[0, 20, 21, 22, 23, 24, 25], 512);
+    run.finish(&[0, 20, 21, 22, 23, 24, 25], 512);
 }

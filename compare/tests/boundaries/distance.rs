@@ -1,8 +1,9 @@
 //! Check 25: the distance of every band, and the reference of every phase.
 
-use super::{finish, hold, purchase, sale};
+use super::{hold, purchase, sale};
 use compare::{
     arrival::{Arrival, Market, Settings, EXAMPLE_MARKET, EXAMPLE_SETTINGS},
+    limits::every,
     run::Run,
 };
 
@@ -96,7 +97,7 @@ fn every_band() {
             }
         }
     }
-    finish(&run, &[0, 25], 1_000);
+    run.finish(&[0, 25], 1_000);
 }
 
 /// Not for market orders, nor with a stop or manual flag, nor switched off.
@@ -134,7 +135,7 @@ fn largest_distance() {
         sold.price = -amount;
         hold(&mut run, &sold, number);
     }
-    finish(&run, &[0, 25], 15);
+    run.finish(&[0, 25], 15);
 }
 
 /// A row of the table of references: NBB, NBO, own bid, own offer, close, and from what a purchase
@@ -181,6 +182,17 @@ const HALT: [Row; 5] = [
     ([0, 0, 700, 800, 900], 0, 0),
 ];
 
+/// A market with the five prices of a row.
+fn market_of(phase: u64, open_elsewhere: u64, prices: [u64; 5]) -> Market {
+    let [best_and_own @ .., close] = prices;
+    Market {
+        phase,
+        open_elsewhere,
+        close,
+        ..EXAMPLE_MARKET.with_prices(best_and_own)
+    }
+}
+
 #[test]
 fn every_reference() {
     let mut run = Run::new("25 by reference");
@@ -193,22 +205,13 @@ fn every_reference() {
         (2, 0, &HALT),
         (2, 1, &HALT),
     ] {
-        for &([nbb, nbo, own_bid, own_offer, close], for_purchase, for_sale) in rows {
-            let market = Market {
-                phase,
-                open_elsewhere: elsewhere,
-                nbb,
-                nbo,
-                own_bid,
-                own_offer,
-                close,
-                ..EXAMPLE_MARKET
-            };
+        for &(prices, for_purchase, for_sale) in rows {
+            let market = market_of(phase, elsewhere, prices);
             hold_reference(&mut run, market, purchase(), for_purchase, 1);
             hold_reference(&mut run, market, sale(), for_sale, -1);
         }
     }
-    finish(&run, &[0, 25], 186);
+    run.finish(&[0, 25], 186);
 }
 
 /// D is 50 in all of these. The last amount accepted and the first rejected are named; without a
@@ -244,19 +247,9 @@ fn every_small_market() {
     .into_iter()
     .flat_map(|limit| [limit - 1, limit, limit + 1])
     .collect();
-    for code in 0..4_usize.pow(5) {
-        let value = |place: u32| VALUES[code / 4_usize.pow(place) % 4];
+    for prices in every(&VALUES) {
         for (phase, open_elsewhere) in [(0, 0), (0, 1), (1, 0), (2, 0)] {
-            let market = Market {
-                phase,
-                open_elsewhere,
-                nbb: value(0),
-                nbo: value(1),
-                own_bid: value(2),
-                own_offer: value(3),
-                close: value(4),
-                ..EXAMPLE_MARKET
-            };
+            let market = market_of(phase, open_elsewhere, prices);
             for order in [purchase(), sale()] {
                 for amount in &amounts {
                     let arrival = Arrival {
@@ -270,6 +263,6 @@ fn every_small_market() {
             }
         }
     }
-    finish(&run, &[0, 25], 1_024 * 4 * 2 * 18);
+    run.finish(&[0, 25], 1_024 * 4 * 2 * 18);
     assert!(run.given(0).min(run.given(25)) > 10_000);
 }

@@ -1,27 +1,15 @@
 //! Kind, flags, switches and the other yes-or-no numbers: 0 is no, any other value yes.
 
-use super::{finish, purchase, MARCH};
+use super::{purchase, MARCH};
 use compare::{
     arrival::Arrival,
+    limits::{hold_flag, Flag},
     run::Run,
     series::{call, put},
 };
 
-const YES: [u64; 10] = [
-    1,
-    2,
-    255,
-    256,
-    1 << 16,
-    1 << 31,
-    1 << 32,
-    (1 << 32) + 1,
-    1 << 63,
-    u64::MAX,
-];
-
 /// An order whose answer depends on one number, and where that number stands.
-type Flag = (Arrival, fn(&mut Arrival) -> &mut u64);
+type Flagged = (Arrival, Flag<Arrival>);
 
 /// A purchase that 25 rejects, far above the NBO.
 fn far_above() -> Arrival {
@@ -49,7 +37,7 @@ fn calls(counts: [i64; 2], price: i64) -> Arrival {
     Arrival::limit(&legs, price)
 }
 
-fn flags() -> Vec<Flag> {
+fn flags() -> Vec<Flagged> {
     let market_order = Arrival {
         kind: 1,
         ..at_strike()
@@ -89,17 +77,10 @@ fn flags() -> Vec<Flag> {
 fn any_other_value_is_yes() {
     let mut run = Run::new("flags");
     for (mut arrival, flag) in flags() {
-        *flag(&mut arrival) = 0;
-        let no = run.compare(&arrival);
-        *flag(&mut arrival) = 1;
-        let yes = run.compare(&arrival);
-        assert!(no.number.min(yes.number) == 0 && no.number != yes.number);
-        for value in YES {
-            *flag(&mut arrival) = value;
-            assert_eq!(run.compare(&arrival), yes, "{arrival}");
-        }
+        let [no, yes] = hold_flag(&mut run, &mut arrival, flag).map(|answer| answer.number);
+        assert!(no.min(yes) == 0 && no != yes, "{arrival}");
     }
-    finish(&run, &[0, 20, 21, 22, 23, 24, 25], 14 * 12);
+    run.finish(&[0, 20, 21, 22, 23, 24, 25], 14 * 12);
 }
 
 /// The switch of 26, set ticks and what else no order check reads change nothing.

@@ -26,15 +26,6 @@ fn hold(run: &mut Run, arrival: &Arrival, number: u64) {
     );
 }
 
-/// Ends a test: prints what was tried, and fails if it was not all of it.
-fn finish(run: &Run, numbers: &[u64], comparisons: u64) {
-    run.report();
-    for &number in numbers {
-        assert!(run.given(number) > 0, "number {number}");
-    }
-    assert!(run.comparisons >= comparisons, "{}", run.comparisons);
-}
-
 /// A sale of one call, which no check but 25 looks at.
 fn sale() -> Arrival {
     Arrival::limit(&[call(MARCH, 20_000).leg(-1)], -1_000)

@@ -1,13 +1,12 @@
 //! Numbers 1 and 3 to 10.
 
-use super::{finish, hold, purchase, sale, undetermined, MARCH};
+use super::{hold, purchase, sale, undetermined, MARCH};
 use compare::{
-    arrival::{Answer, Arrival, Market, RawLeg, Settings},
+    arrival::{Answer, Arrival, RawLeg},
+    limits::{self, faults_together, Fault, EXTREMES},
     run::Run,
     series::{call, put},
 };
-
-const EXTREMES: [u64; 4] = [1 << 32, 1 << 63, u64::MAX - 1, u64::MAX];
 
 /// So many calls bought at rising strikes, at a price that no check rejects.
 fn calls(number: usize) -> Arrival {
@@ -40,20 +39,11 @@ fn lengths_of_slices() {
         arrival.symbols = vec![0xff; legs * 21];
         arrival.counts = vec![0xff; legs * 8];
         // The second implementation would look at every two of them.
-        run.expect(&arrival, refusal(3), "the rule");
+        run.expect(&arrival, Answer::refusal(3), "the rule");
         arrival.symbols.push(0);
-        run.expect(&arrival, refusal(1), "the rule");
+        run.expect(&arrival, Answer::refusal(1), "the rule");
     }
-    finish(&run, &[0, 1, 3], 800);
-}
-
-fn refusal(number: u64) -> Answer {
-    Answer {
-        number,
-        class: 0,
-        shape: 0,
-        pairings: 0,
-    }
+    run.finish(&[0, 1, 3], 800);
 }
 
 /// A length, one leg more and less, and a byte more and less than each.
@@ -90,7 +80,7 @@ fn counts() {
             hold(&mut run, &arrival, number);
         }
     }
-    finish(&run, &[0, 5], 900);
+    run.finish(&[0, 5], 900);
 }
 
 #[test]
@@ -121,20 +111,25 @@ fn symbols() {
     ] {
         hold(&mut run, &Arrival::limit(&[one, other], 1_000), number);
     }
+    different_roots(&mut run);
+    run.finish(&[0, 4, 6, 7], 63 * 256);
+}
+
+fn different_roots(run: &mut Run) {
+    let one = call(MARCH, 20_000).leg(1);
     for root in ["XYZ1", "XY", "XYY", "XYZXYZ", "YYZ"] {
         let mut other = call(MARCH, 20_000);
         other.root = root; // equal but for the root: not a series twice
         let arrival = Arrival::limit(&[one, other.leg(1)], 1_000);
-        hold(&mut run, &arrival, 7);
+        hold(run, &arrival, 7);
     }
     // Roots of six characters that differ in one place.
     for root in ["ABCDEG", "ABCDFF", "ABCEEF", "ABDDEF", "ACCDEF", "BBCDEF"] {
         let (mut this, mut other) = (call(MARCH, 20_000), call(MARCH, 30_000));
         (this.root, other.root) = ("ABCDEF", root);
         let arrival = Arrival::limit(&[this.leg(1), other.leg(1)], 1_000);
-        hold(&mut run, &arrival, 7);
+        hold(run, &arrival, 7);
     }
-    finish(&run, &[0, 4, 6, 7], 63 * 256);
 }
 
 #[test]
@@ -170,31 +165,15 @@ fn prices() {
             hold(&mut run, &at(undetermined()), or_8(small));
         }
     }
-    finish(&run, &[0, 8], 100);
+    run.finish(&[0, 8], 100);
 }
 
 #[test]
 fn settings() {
     let mut run = Run::new("settings");
-    let limits = [
-        [(1, 1_000); 3].as_slice(),  // ticks and net increment
-        &[(2, 1_000); 4],            // ATDs
-        &[(0, 10_000)],              // percentage
-        &[(0, 600), (0, 1_000_000)], // presets, the minimum not above the maximum
-        &[(0, 1_000)],               // set ticks
-    ]
-    .concat();
-    for (place, (least, most)) in (7..).zip(limits) {
-        let around = [0, 1, 2, 3, 599, 600, 601, 999, 1_000, 1_001, 9_999, 10_000];
-        let far = [10_001, 999_999, 1_000_000, 1_000_001];
-        for value in [&around[..], &far, &EXTREMES, &[(1 << 32) + 5]].concat() {
-            let within = (least..=most).contains(&value);
-            hold(
-                &mut run,
-                &with_setting(place, value),
-                if within { 0 } else { 9 },
-            );
-        }
+    for (place, value, within) in limits::of_settings() {
+        let number = if within { 0 } else { 9 };
+        hold(&mut run, &with_setting(place, value), number);
     }
     for place in (0..7).chain([18, 19]) {
         for value in [&[0, 1, 2][..], &EXTREMES].concat() {
@@ -211,44 +190,29 @@ fn settings() {
             hold(&mut run, &arrival, if within { 0 } else { 9 });
         }
     }
-    finish(&run, &[0, 9], 300);
+    run.finish(&[0, 9], 300);
 }
 
 fn with_setting(place: usize, value: u64) -> Arrival {
     let mut arrival = sale();
-    let mut numbers = arrival.settings.numbers();
-    numbers[place] = value;
-    arrival.settings = Settings::of_numbers(numbers);
+    arrival.settings = arrival.settings.with(place, value);
     arrival
 }
 
 #[test]
 fn market() {
     let mut run = Run::new("market");
-    for place in 0..9 {
-        let most = match place {
-            0 => 2,
-            1 | 2 => u64::MAX,
-            _ => 1_000_000_000,
-        };
-        let around = [0, 1, 2, 3, 999_999_999, 1_000_000_000, 1_000_000_001];
-        for value in [&around[..], &EXTREMES, &[(1 << 32) + 1]].concat() {
-            let mut arrival = sale();
-            arrival.settings.switches = [0; 7];
-            let mut numbers = arrival.market.numbers();
-            numbers[place] = value;
-            arrival.market = Market::of_numbers(numbers);
-            hold(&mut run, &arrival, if value <= most { 0 } else { 10 });
-        }
+    for (place, value, within) in limits::of_market() {
+        let mut arrival = sale();
+        arrival.settings.switches = [0; 7];
+        arrival.market = arrival.market.with(place, value);
+        hold(&mut run, &arrival, if within { 0 } else { 10 });
     }
-    finish(&run, &[0, 10], 100);
+    run.finish(&[0, 10], 100);
 }
 
-/// A number, and what makes an arrival get it.
-type Fault = (u64, fn(&mut Arrival));
-
 /// Faults that can be made one on top of the other.
-fn faults() -> [Fault; 9] {
+fn faults() -> [Fault<Arrival>; 9] {
     [
         (1, |arrival| arrival.symbols.push(b' ')),
         (3, |arrival| {
@@ -286,17 +250,8 @@ fn append(arrival: &mut Arrival, leg: RawLeg) {
 #[test]
 fn lowest_number_first() {
     let mut run = Run::new("faults together");
-    let faults = faults();
-    for chosen in 0..1_u32 << faults.len() {
-        let mut arrival = undetermined();
-        let mut number = 0;
-        for (place, (fault, make)) in faults.iter().enumerate().rev() {
-            if chosen >> place & 1 == 1 {
-                make(&mut arrival);
-                number = *fault;
-            }
-        }
+    for (arrival, number) in faults_together(&undetermined(), &faults()) {
         hold(&mut run, &arrival, number);
     }
-    finish(&run, &[0, 1, 3, 4, 5, 6, 7, 8, 9, 10], 512);
+    run.finish(&[0, 1, 3, 4, 5, 6, 7, 8, 9, 10], 512);
 }

@@ -1,16 +1,17 @@
 //! One below, at and above every limit that document 01 draws for quotes. Each case names its
 //! number, so both implementations are held to the rule and not only to each other.
 
-use super::{finish, hold, of_call, of_put, MARCH};
+use super::{hold, of_call, of_put, MARCH};
 use compare::{
-    arrival::{Market, Settings},
+    limits::{
+        self, around_market_values, every_switching, faults_together, hold_flag, Fault, Flag,
+    },
     quote::Quote,
     run::Run,
     series::{call, put},
 };
 
 const LARGEST: u64 = 1_000_000_000;
-const EXTREMES: [u64; 4] = [1 << 32, 1 << 63, u64::MAX - 1, u64::MAX];
 
 /// A quote that no check rejects.
 fn plain() -> Quote {
@@ -39,95 +40,62 @@ fn symbols() {
         let quote = Quote::new(&call(expiry, 20_000).symbol(), 1, 2);
         hold(&mut run, &quote, number);
     }
-    finish(&run, &[0, 1, 4, 20], 21 * 256);
+    run.finish(&[0, 1, 4, 20], 21 * 256);
 }
 
 #[test]
 fn bids_and_offers() {
     let mut run = Run::new("bids and offers");
-    let around = [0, 1, 2, 3, LARGEST - 1, LARGEST, LARGEST + 1];
-    let prices = [&around[..], &EXTREMES, &[(1 << 32) + 1]].concat();
+    let prices = around_market_values();
     for &bid in &prices {
         for &offer in &prices {
             let right = 1 <= bid && bid < offer && offer <= LARGEST;
             hold(&mut run, &of_call(bid, offer), if right { 0 } else { 11 });
         }
     }
-    finish(&run, &[0, 11], 2 * 144);
+    run.finish(&[0, 11], 2 * 144);
 }
 
 #[test]
 fn settings() {
     let mut run = Run::new("settings of quotes");
-    let limits = [
-        [(1, 1_000); 3].as_slice(),  // ticks and net increment
-        &[(2, 1_000); 4],            // ATDs
-        &[(0, 10_000)],              // percentage
-        &[(0, 600), (0, 1_000_000)], // presets, the minimum not above the maximum
-        &[(0, 1_000)],               // set ticks
-    ]
-    .concat();
-    let around = [0, 1, 2, 3, 599, 600, 601, 999, 1_000, 1_001, 9_999, 10_000];
-    let far = [10_001, 999_999, 1_000_000, 1_000_001, (1 << 32) + 5];
-    for (place, (least, most)) in (7..).zip(limits) {
-        for value in [&around[..], &far, &EXTREMES].concat() {
-            let right = (least..=most).contains(&value);
-            let number = if right { 0 } else { 9 };
-            hold(&mut run, &with_setting(plain(), place, value), number);
-        }
+    for (place, value, within) in limits::of_settings() {
+        let number = if within { 0 } else { 9 };
+        hold(&mut run, &with_setting(plain(), place, value), number);
     }
     for (minimum, maximum, number) in [(601, 601, 0), (602, 601, 9), (1_000_001, 1_000_001, 9)] {
         let quote = with_setting(with_setting(plain(), 15, minimum), 16, maximum);
         hold(&mut run, &quote, number);
     }
-    finish(&run, &[0, 9], 2 * 11 * 21);
+    run.finish(&[0, 9], 2 * 11 * 21);
 }
 
 fn with_setting(quote: Quote, place: usize, value: u64) -> Quote {
-    let mut numbers = quote.settings.numbers();
-    numbers[place] = value;
-    Quote {
-        settings: Settings::of_numbers(numbers),
-        ..quote
-    }
+    let settings = quote.settings.with(place, value);
+    Quote { settings, ..quote }
 }
 
 fn with_market(quote: Quote, place: usize, value: u64) -> Quote {
-    let mut numbers = quote.market.numbers();
-    numbers[place] = value;
-    Quote {
-        market: Market::of_numbers(numbers),
-        ..quote
-    }
+    let market = quote.market.with(place, value);
+    Quote { market, ..quote }
 }
 
 #[test]
 fn markets() {
     let mut run = Run::new("markets of quotes");
-    let around = [0, 1, 2, 3, LARGEST - 1, LARGEST, LARGEST + 1];
-    for place in 0..9 {
-        let most = match place {
-            0 => 2,
-            1 | 2 => u64::MAX,
-            _ => LARGEST,
-        };
-        for value in [&around[..], &EXTREMES, &[(1 << 32) + 1]].concat() {
-            let mut quote = plain();
-            quote.settings.switches = [0; 7];
-            let number = if value <= most { 0 } else { 10 };
-            hold(&mut run, &with_market(quote, place, value), number);
-        }
+    for (place, value, within) in limits::of_market() {
+        let mut quote = plain();
+        quote.settings.switches = [0; 7];
+        let number = if within { 0 } else { 10 };
+        hold(&mut run, &with_market(quote, place, value), number);
     }
-    finish(&run, &[0, 10], 2 * 9 * 12);
+    run.finish(&[0, 10], 2 * 9 * 12);
 }
 
-/// A number, and what makes a quote get it.
-type Fault = (u64, fn(&mut Quote));
-
-/// Any faults together, on a quote that 20 and 26 reject: the lowest number is given.
+/// Any faults together, and what 20 and 26 reject: the lowest number is given.
 #[test]
 fn lowest_number_first() {
-    const FAULTS: [Fault; 7] = [
+    const FAULTS: [Fault<Quote>; 7] = [
         (1, |quote| quote.symbol.push(b'0')),
         (4, |quote| quote.symbol[0] = b'x'),
         (9, |quote| quote.settings.set_ticks = 1_001),
@@ -137,18 +105,11 @@ fn lowest_number_first() {
         (26, |quote| quote.market.nbo = 17_000),
     ];
     let mut run = Run::new("faults of quotes");
-    for chosen in 0..1_u32 << FAULTS.len() {
-        let mut quote = of_put(18_000, 17_000, 18_001);
-        let mut number = 0;
-        for (place, (fault, make)) in FAULTS.iter().enumerate().rev() {
-            if chosen >> place & 1 == 1 {
-                make(&mut quote);
-                number = *fault;
-            }
-        }
+    let accepted = of_put(18_000, 17_000, 18_001);
+    for (quote, number) in faults_together(&accepted, &FAULTS) {
         hold(&mut run, &quote, number);
     }
-    finish(&run, &[0, 1, 4, 9, 10, 11, 20, 26], 2 * 128);
+    run.finish(&[0, 1, 4, 9, 10, 11, 20, 26], 2 * 128);
 }
 
 #[test]
@@ -171,7 +132,7 @@ fn put_strike() {
             }
         }
     }
-    finish(&run, &[0, 20], 300);
+    run.finish(&[0, 20], 300);
 }
 
 #[test]
@@ -194,7 +155,7 @@ fn call_underlying() {
             }
         }
     }
-    finish(&run, &[0, 21], 500);
+    run.finish(&[0, 21], 500);
 }
 
 /// NBB, NBO, own bid and own offer, and the highest bid and lowest offer that 26 accepts (0: any).
@@ -230,14 +191,8 @@ const ROWS: [Row; 22] = [
     ([0, 0, 0, 0], 0, 0),
 ];
 
-fn market_of([nbb, nbo, own_bid, own_offer]: [u64; 4], quote: Quote) -> Quote {
-    let market = Market {
-        nbb,
-        nbo,
-        own_bid,
-        own_offer,
-        ..quote.market
-    };
+fn market_of(prices: [u64; 4], quote: Quote) -> Quote {
+    let market = quote.market.with_prices(prices);
     Quote { market, ..quote }
 }
 
@@ -295,7 +250,7 @@ fn inversion() {
             0,
         );
     }
-    finish(&run, &[0, 26], 2_000);
+    run.finish(&[0, 26], 2_000);
 }
 
 /// The price that is compared with, set ticks, and the highest bid and lowest offer accepted, with
@@ -346,7 +301,7 @@ fn ticks() {
             hold_row(&mut run, &quote, 0, lowest_offer);
         }
     }
-    finish(&run, &[0, 26], 14 * 8 * 2 * 4);
+    run.finish(&[0, 26], 14 * 8 * 2 * 4);
 }
 
 /// The largest distance, and prices at the largest of all.
@@ -366,7 +321,7 @@ fn largest_prices() {
     hold_row(&mut run, &at_best(1), 1_000_001, 0);
     let other = |best| market_of([0, best, 0, best - 1], quote.clone());
     hold_row(&mut run, &other(LARGEST - 1), LARGEST - 2, 0);
-    finish(&run, &[0, 26], 40);
+    run.finish(&[0, 26], 40);
 }
 
 /// Quotes that several checks reject: the lowest that is switched on is given.
@@ -384,21 +339,19 @@ fn switches() {
         (market_of(both, plain()), &[]),
     ];
     for (quote, rejecting) in quotes {
-        for switches in 0..1 << 7 {
-            let on = |number: u64| switches >> (number - 20) & 1;
+        for (switches, number) in every_switching(rejecting) {
             let mut quote = quote.clone();
-            quote.settings.switches = [20, 21, 22, 23, 24, 25, 26].map(on);
-            let first = rejecting.iter().copied().find(|&number| on(number) == 1);
-            hold(&mut run, &quote, first.unwrap_or(0));
+            quote.settings.switches = switches;
+            hold(&mut run, &quote, number);
         }
     }
-    finish(&run, &[0, 20, 21, 26], 2 * 4 * 128);
+    run.finish(&[0, 20, 21, 26], 2 * 4 * 128);
 }
 
 /// A quote whose answer depends on one number, and where that number stands.
-type Flag = (Quote, fn(&mut Quote) -> &mut u64);
+type Flagged = (Quote, Flag<Quote>);
 
-fn flags() -> [Flag; 7] {
+fn flags() -> [Flagged; 7] {
     let at_strike = of_put(18_000, 18_000, 18_001);
     let mut at_underlying = of_call(10_000, 10_001);
     at_underlying.market.underlying = 10_000;
@@ -422,18 +375,10 @@ fn flags() -> [Flag; 7] {
 fn any_other_value_is_yes() {
     let mut run = Run::new("flags of quotes");
     for (mut quote, flag) in flags() {
-        *flag(&mut quote) = 0;
-        let no = run.compare(&quote);
-        *flag(&mut quote) = 1;
-        let yes = run.compare(&quote);
+        let [no, yes] = hold_flag(&mut run, &mut quote, flag);
         assert_ne!(no, yes, "{quote}");
-        let small = [2, 255, 256, 1 << 16, 1 << 31];
-        for value in [&small[..], &EXTREMES, &[(1 << 32) + 1]].concat() {
-            *flag(&mut quote) = value;
-            assert_eq!(run.compare(&quote), yes, "{quote}");
-        }
     }
-    finish(&run, &[0, 20, 21, 26], 7 * 12);
+    run.finish(&[0, 20, 21, 26], 7 * 12);
 }
 
 /// What only orders read changes nothing, as long as it is within its limits.
@@ -454,5 +399,5 @@ fn what_only_orders_read_changes_nothing() {
             assert_eq!(run.compare(&other), answer, "{other}");
         }
     }
-    finish(&run, &[0, 20, 21, 26], 7 * 30);
+    run.finish(&[0, 20, 21, 26], 7 * 30);
 }

@@ -28,15 +28,6 @@ fn hold(run: &mut Run, quote: &Quote, number: u64) {
     }
 }
 
-/// Ends a test: prints what was tried, and fails if it was not all of it.
-fn finish(run: &Run, numbers: &[u64], comparisons: u64) {
-    run.report();
-    for &number in numbers {
-        assert!(run.given(number) > 0, "number {number}");
-    }
-    assert!(run.comparisons >= comparisons, "{}", run.comparisons);
-}
-
 /// A quote of a call, which no check rejects while the market's values are missing.
 fn of_call(bid: u64, offer: u64) -> Quote {
     Quote::new(&call(MARCH, 20_000).symbol(), bid, offer)

@@ -115,36 +115,38 @@ fn place(quote: &Quote, side: Side, price: u64, compared: u64) -> Place {
     }
 }
 
+const STATES: [(Nbbo, Own); 15] = [
+    (Nbbo::Both, Own::Best),
+    (Nbbo::Both, Own::Other),
+    (Nbbo::Both, Own::Missing),
+    (Nbbo::OnlyCompared, Own::Best),
+    (Nbbo::OnlyCompared, Own::Other),
+    (Nbbo::OnlyCompared, Own::Missing),
+    (Nbbo::Locked, Own::Best),
+    (Nbbo::Locked, Own::Other),
+    (Nbbo::Crossed, Own::Best),
+    (Nbbo::Crossed, Own::Other),
+    (Nbbo::Unavailable, Own::Other),
+    (Nbbo::Locked, Own::Missing),
+    (Nbbo::Crossed, Own::Missing),
+    (Nbbo::Unavailable, Own::Missing),
+    (Nbbo::OnlyOther, Own::Other), // and missing, below
+];
+
+const PLACES: [Place; 9] = [
+    Place::Below,
+    Place::OneBelow,
+    Place::At,
+    Place::OneAbove,
+    Place::Within,
+    Place::OneBeforeSetTicks,
+    Place::AtSetTicks,
+    Place::OneBeyondSetTicks,
+    Place::Beyond,
+];
+
 /// Every situation that there is.
 pub fn all() -> Vec<Situation> {
-    const STATES: [(Nbbo, Own); 15] = [
-        (Nbbo::Both, Own::Best),
-        (Nbbo::Both, Own::Other),
-        (Nbbo::Both, Own::Missing),
-        (Nbbo::OnlyCompared, Own::Best),
-        (Nbbo::OnlyCompared, Own::Other),
-        (Nbbo::OnlyCompared, Own::Missing),
-        (Nbbo::Locked, Own::Best),
-        (Nbbo::Locked, Own::Other),
-        (Nbbo::Crossed, Own::Best),
-        (Nbbo::Crossed, Own::Other),
-        (Nbbo::Unavailable, Own::Other),
-        (Nbbo::Locked, Own::Missing),
-        (Nbbo::Crossed, Own::Missing),
-        (Nbbo::Unavailable, Own::Missing),
-        (Nbbo::OnlyOther, Own::Other), // and missing, below
-    ];
-    const PLACES: [Place; 9] = [
-        Place::Below,
-        Place::OneBelow,
-        Place::At,
-        Place::OneAbove,
-        Place::Within,
-        Place::OneBeforeSetTicks,
-        Place::AtSetTicks,
-        Place::OneBeyondSetTicks,
-        Place::Beyond,
-    ];
     let mut all = Vec::new();
     for side in Side::BOTH {
         for (nbbo, own) in STATES {

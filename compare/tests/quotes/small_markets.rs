@@ -1,8 +1,9 @@
 //! Every quote in every small market.
 
-use super::{finish, of_call, of_put};
+use super::{of_call, of_put};
 use compare::{
     arrival::{Market, EXAMPLE_MARKET},
+    limits::every,
     quote::Quote,
     run::Run,
 };
@@ -16,24 +17,19 @@ const PHASES: [(u64, u64); 5] = [(0, 0), (0, 1), (1, 0), (2, 0), (2, 1)];
 #[test]
 fn every_market_of_small_prices() {
     let mut run = Run::new("small markets");
-    for code in 0..5_u64.pow(6) {
-        let value = |place: u32| code / 5_u64.pow(place) % 5;
+    for [underlying, nbb, nbo, own_bid, own_offer, close] in every(&[0, 1, 2, 3, 4]) {
         for (phase, open_elsewhere) in PHASES {
             let market = Market {
                 phase,
                 open_elsewhere,
-                underlying: value(0),
-                nbb: value(1),
-                nbo: value(2),
-                own_bid: value(3),
-                own_offer: value(4),
-                close: value(5),
-                ..EXAMPLE_MARKET
+                underlying,
+                close,
+                ..EXAMPLE_MARKET.with_prices([nbb, nbo, own_bid, own_offer])
             };
-            every_small_quote(&mut run, market, market.close % 3);
+            every_small_quote(&mut run, market, close % 3);
         }
     }
-    finish(&run, &[0, 20, 21, 26], 15_625 * 5 * 2 * 15);
+    run.finish(&[0, 20, 21, 26], 15_625 * 5 * 2 * 15);
 }
 
 fn every_small_quote(run: &mut Run, market: Market, set_ticks: u64) {
@@ -61,17 +57,10 @@ fn every_small_quote(run: &mut Run, market: Market, set_ticks: u64) {
 #[test]
 fn every_sequence_of_prices() {
     let mut run = Run::new("sequences of prices");
-    for code in 0..7_u64.pow(4) {
-        let value = |place: u32| code / 7_u64.pow(place) % 7;
+    for prices in every(&[0, 1, 2, 3, 4, 5, 6]) {
         let mut quote = of_call(0, 0);
         quote.settings.tick_below_3000 = 1;
-        quote.market = Market {
-            nbb: value(0),
-            nbo: value(1),
-            own_bid: value(2),
-            own_offer: value(3),
-            ..EXAMPLE_MARKET
-        };
+        quote.market = EXAMPLE_MARKET.with_prices(prices);
         for set_ticks in 0..=3 {
             quote.settings.set_ticks = set_ticks;
             for (bid, offer) in (1..=8).flat_map(|bid| (bid + 1..=9).map(move |o| (bid, o))) {
@@ -81,7 +70,7 @@ fn every_sequence_of_prices() {
             }
         }
     }
-    finish(&run, &[0, 26], 2_401 * 4 * 36);
+    run.finish(&[0, 26], 2_401 * 4 * 36);
     assert!(run.given(0).min(run.given(26)) > 50_000);
 }
 
@@ -92,8 +81,7 @@ fn every_market_around_3000() {
     const VALUES: [u64; 5] = [0, 2_998, 2_999, 3_000, 3_001];
     const TICKS: [u64; 2] = [11, 13];
     let mut run = Run::new("markets around 3,000");
-    for code in 0..5_usize.pow(4) {
-        let value = |place: u32| VALUES[code / 5_usize.pow(place) % 5];
+    for prices in every(&VALUES) {
         for (phase, open_elsewhere) in [(0, 1), (1, 0)] {
             for set_ticks in [0, 1, 3] {
                 let mut quote = of_call(1, 1_000_000);
@@ -105,17 +93,13 @@ fn every_market_around_3000() {
                 quote.market = Market {
                     phase,
                     open_elsewhere,
-                    nbb: value(0),
-                    nbo: value(1),
-                    own_bid: value(2),
-                    own_offer: value(3),
-                    ..EXAMPLE_MARKET
+                    ..EXAMPLE_MARKET.with_prices(prices)
                 };
                 every_price(&mut run, &quote, &prices_of_interest(set_ticks, TICKS));
             }
         }
     }
-    finish(&run, &[0, 26], 625 * 2 * 2 * (6 + 22 + 22));
+    run.finish(&[0, 26], 625 * 2 * 2 * (6 + 22 + 22));
     assert!(run.given(0).min(run.given(26)) > 10_000);
 }
 
