@@ -32,7 +32,7 @@ static inline void expect_within(expect_given *expect_made, void *made, struct l
 /* From the example settings on; the presets are left at 700 and 1000000. */
 static inline void expect_setting_limits(expect_given *expect_made, void *made,
                                          struct opc_settings *s) {
-    const struct limited fields[] = {LIMITED_SETTINGS(s)};
+    const struct limited fields[] = LIMITED_SETTINGS(s);
     for (size_t i = 0; i < COUNT(fields); i++) {
         expect_within(expect_made, made, fields[i], OPC_BAD_SETTING);
     }

@@ -49,13 +49,13 @@ struct limited {
 
 /* Every setting that has limits; those of a preset are as the other preset is. */
 #define LIMITED_SETTINGS(s)                                                                        \
-    {&(s)->tick_below_3000, 1, 1000}, {&(s)->tick_from_3000, 1, 1000},                             \
-        {&(s)->net_increment, 1, 1000}, {&(s)->atd_below_1000, 2, 1000},                           \
-        {&(s)->atd_to_2999, 2, 1000}, {&(s)->atd_to_9999, 2, 1000},                                \
-        {&(s)->atd_from_10000, 2, 1000}, {&(s)->percentage, 0, 10000},                             \
-        {&(s)->preset_minimum, 0, (s)->preset_maximum},                                            \
-        {&(s)->preset_maximum, (s)->preset_minimum, 1000000}, {                                    \
-        &(s)->set_ticks, 0, 1000                                                                   \
+    {                                                                                              \
+        {&(s)->tick_below_3000, 1, 1000}, {&(s)->tick_from_3000, 1, 1000},                         \
+            {&(s)->net_increment, 1, 1000}, {&(s)->atd_below_1000, 2, 1000},                       \
+            {&(s)->atd_to_2999, 2, 1000}, {&(s)->atd_to_9999, 2, 1000},                            \
+            {&(s)->atd_from_10000, 2, 1000}, {&(s)->percentage, 0, 10000},                         \
+            {&(s)->preset_minimum, 0, (s)->preset_maximum},                                        \
+            {&(s)->preset_maximum, (s)->preset_minimum, 1000000}, {&(s)->set_ticks, 0, 1000},      \
     }
 
 /* The market's prices, each of which may be missing. */
@@ -287,7 +287,7 @@ static inline void damage_price(struct made_order *m) {
 }
 
 static inline void damage_settings(struct opc_settings *s) {
-    const struct limited fields[] = {LIMITED_SETTINGS(s)};
+    const struct limited fields[] = LIMITED_SETTINGS(s);
     uint64_t wrong = one_in(2) ? 1000001 : next_random() | 1ULL << 63;
     *fields[below(COUNT(fields))].field = wrong;
 }

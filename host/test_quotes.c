@@ -160,7 +160,7 @@ static void test_setting_limits(void) {
     struct made_quote q = one_quote();
     expect_setting_limits(expect_quote, &q, &q.settings);
     switch_off(&q.settings);
-    const struct limited fields[] = {LIMITED_SETTINGS(&q.settings)};
+    const struct limited fields[] = LIMITED_SETTINGS(&q.settings);
     for (size_t i = 0; i < COUNT(fields); i++) {
         uint64_t kept = *fields[i].field;
         *fields[i].field = 1000001;

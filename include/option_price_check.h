@@ -282,9 +282,9 @@ struct opc_answer {
  *     OPC_CHECK_DEBIT_CREDIT   two or more legs, a debit at a negative price (limit orders only),
  *                              or a credit at a positive price;
  *     OPC_CHECK_MAXIMUM_VALUE  a vertical, a true butterfly or a box, at a price whose size is
- *                              above its maximum value and the allowance together, as below;
- *     OPC_CHECK_TICK_DISTANCE  one leg, a limit order without stop or manual flag, bought more than
- *                              the distance above its reference, or sold more below, as below;
+ *                              above its maximum value and the allowance together;
+ *     OPC_CHECK_TICK_DISTANCE  one leg, a limit order without stop or manual flag, bought further
+ *                              above its reference than the distance, or sold further under it;
  *   otherwise
  *     OPC_ACCEPTED.
  *
@@ -347,7 +347,7 @@ static inline struct opc_answer opc_answer_order(const struct opc_order *order,
  */
 struct opc_tally {
     uint64_t seen;     /* at most OPC_MOST_TALLIED, and always the sum of the other three */
-    uint64_t refused;  /* given any other number; a check given 12 is not seen at all */
+    uint64_t refused;  /* given 1 to 10; a check given 12 is not seen at all */
     uint64_t accepted; /* given 0 */
     uint64_t rejected; /* given 20 to 26 */
 };
@@ -367,7 +367,7 @@ struct opc_tally {
  *
  * After OPC_BAD_TALLY, *class_, *shape and *pairings are 0, and the tally is as it was. Otherwise
  * they are as opc_check_order sets them; *seen is one more than it was, and so is *accepted (after
- * 0), *rejected (after 20 to 26) or *refused (after any other number).
+ * 0), *rejected (after 20 to 26) or *refused (after 1 to 10).
  */
 uint64_t opc_check_order_tallied(
     const uint8_t *symbols, size_t symbols_len, const uint8_t *counts, size_t counts_len,
