@@ -5,6 +5,7 @@
  * No rule of the checks is here. What can be said to the library goes to it as it was written, so
  * that the refusal is the library's; only what cannot be said to it is a line that cannot be read.
  */
+#include "answers.h"
 #include "option_price_check.h"
 
 #include <errno.h>
@@ -12,8 +13,6 @@
 #include <stdbool.h>
 #include <stdio.h>
 #include <string.h>
-
-#define COUNT(array) (sizeof(array) / sizeof(array)[0])
 
 static const char *const form[] = {
     "usage: desk [FILE]     checks the orders and quotes of FILE, or of standard input",
@@ -361,24 +360,6 @@ static const struct verdict verdicts[] = {
                                    "the bid or the offer inverts the market"},
 };
 
-static const char *const class_names[] = {
-    [OPC_CLASS_UNDETERMINED] = "undetermined",
-    [OPC_CLASS_DEBIT] = "debit",
-    [OPC_CLASS_CREDIT] = "credit",
-};
-
-static const char *const shape_names[] = {
-    [OPC_SHAPE_OTHER] = "other",
-    [OPC_SHAPE_VERTICAL] = "vertical",
-    [OPC_SHAPE_TRUE_BUTTERFLY] = "true butterfly",
-    [OPC_SHAPE_SKEWED_BUTTERFLY] = "skewed butterfly",
-    [OPC_SHAPE_BOX] = "box",
-};
-
-static const char *name_of(uint64_t value, const char *const names[], size_t len) {
-    return value < len ? names[value] : "unknown";
-}
-
 /* Prints the number with its words, and gives the outcome. */
 static enum outcome print_verdict(uint64_t number) {
     static const struct verdict unknown = {UNKNOWN, NULL, NULL};
@@ -399,9 +380,8 @@ static enum outcome print_verdict(uint64_t number) {
 static void print_order_answer(uint64_t line_number, const struct opc_answer *answer) {
     printf("%" PRIu64 ": order: ", line_number);
     if (print_verdict(answer->number) != REFUSED) {
-        printf("; class %s, shape %s, %" PRIu64 " %s",
-               name_of(answer->class_, class_names, COUNT(class_names)),
-               name_of(answer->shape, shape_names, COUNT(shape_names)), answer->pairings,
+        printf("; class %s, shape %s, %" PRIu64 " %s", class_name(answer->class_),
+               shape_name(answer->shape), answer->pairings,
                answer->pairings == 1 ? "pairing" : "pairings");
     }
     printf("\n");

@@ -78,8 +78,7 @@ static void fibonacci(struct made_order *m, size_t legs) {
 
 static void reverse_legs(struct made_order *m) {
     for (size_t i = 0, j = legs_of(m) - 1; i < j; i++, j--) {
-        exchange(symbol_at(m, i), symbol_at(m, j), OPC_SYMBOL_LENGTH);
-        exchange(count_at(m, i), count_at(m, j), OPC_COUNT_LENGTH);
+        exchange_legs(m, i, j);
     }
 }
 
@@ -178,10 +177,10 @@ int main(int argc, char **argv) {
     static const size_t all[] = {1, 2, 4, 8, 16}, least_and_most[] = {1, 16};
     const char *entry = argc == 2 ? argv[1] : "";
     if (strcmp(entry, "opc_check_order") == 0) {
-        check_sizes(all, MADE_COUNT(all));
+        check_sizes(all, COUNT(all));
     } else if (strcmp(entry, "opc_check_order_tallied") == 0) {
         tallied = true;
-        check_sizes(least_and_most, MADE_COUNT(least_and_most));
+        check_sizes(least_and_most, COUNT(least_and_most));
     } else if (strcmp(entry, "opc_check_quote") == 0) {
         check_quotes();
     } else {

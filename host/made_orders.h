@@ -5,16 +5,16 @@
 #ifndef MADE_ORDERS_H
 #define MADE_ORDERS_H
 
+#include "chance.h"
+#include "count.h"
 #include "option_price_check.h"
 
 #include <inttypes.h>
-#include <stdbool.h>
 #include <stdio.h>
 #include <string.h>
 
 /* More legs than an order may have. */
 #define MADE_LEGS 20
-#define MADE_COUNT(array) (sizeof(array) / sizeof(array)[0])
 
 /* All that the order check takes; the bytes are held here, and `lend` makes the order of them. */
 struct made_order {
@@ -42,22 +42,25 @@ struct made_order {
     (m)->phase, (m)->open_elsewhere, (m)->extended_hours, (m)->underlying, (m)->nbb, (m)->nbo,     \
         (m)->own_bid, (m)->own_offer, (m)->previous_close
 
-/* A splitmix64 generator from a fixed seed: every run makes the same orders. */
-static inline uint64_t next_random(void) {
-    static uint64_t state = 20151117;
-    uint64_t z = state += 0x9e3779b97f4a7c15;
-    z = (z ^ z >> 30) * 0xbf58476d1ce4e5b9;
-    z = (z ^ z >> 27) * 0x94d049bb133111eb;
-    return z ^ z >> 31;
-}
+/* A field that has limits. */
+struct limited {
+    uint64_t *field, least, most;
+};
 
-static inline uint64_t below(uint64_t limit) { return next_random() % limit; }
+/* Every setting that has limits; those of a preset are as the other preset is. */
+#define LIMITED_SETTINGS(s)                                                                        \
+    {                                                                                              \
+        {&(s)->tick_below_3000, 1, 1000}, {&(s)->tick_from_3000, 1, 1000},                         \
+            {&(s)->net_increment, 1, 1000}, {&(s)->atd_below_1000, 2, 1000},                       \
+            {&(s)->atd_to_2999, 2, 1000}, {&(s)->atd_to_9999, 2, 1000},                            \
+            {&(s)->atd_from_10000, 2, 1000}, {&(s)->percentage, 0, 10000},                         \
+            {&(s)->preset_minimum, 0, (s)->preset_maximum},                                        \
+            {&(s)->preset_maximum, (s)->preset_minimum, 1000000}, {&(s)->set_ticks, 0, 1000},      \
+    }
 
-static inline uint64_t between(uint64_t least, uint64_t most) {
-    return least + below(most - least + 1);
-}
-
-static inline bool one_in(uint64_t n) { return below(n) == 0; }
+/* The market's prices, each of which may be missing. */
+#define MARKET_VALUES(m)                                                                           \
+    &(m)->underlying, &(m)->nbb, &(m)->nbo, &(m)->own_bid, &(m)->own_offer, &(m)->previous_close
 
 static inline size_t legs_of(const struct made_order *m) {
     return m->counts_len / OPC_COUNT_LENGTH;
@@ -111,12 +114,16 @@ static inline void exchange(uint8_t *a, uint8_t *b, size_t len) {
 }
 
 /* Whole legs change places. */
+static inline void exchange_legs(struct made_order *m, size_t i, size_t j) {
+    exchange(symbol_at(m, i), symbol_at(m, j), OPC_SYMBOL_LENGTH);
+    exchange(count_at(m, i), count_at(m, j), OPC_COUNT_LENGTH);
+}
+
 static inline void shuffle_legs(struct made_order *m) {
     for (size_t i = legs_of(m); i > 1; i--) {
         size_t j = below(i);
         if (j != i - 1) {
-            exchange(symbol_at(m, i - 1), symbol_at(m, j), OPC_SYMBOL_LENGTH);
-            exchange(count_at(m, i - 1), count_at(m, j), OPC_COUNT_LENGTH);
+            exchange_legs(m, i - 1, j);
         }
     }
 }
@@ -131,7 +138,7 @@ static inline int64_t random_count(uint64_t style) {
     } else if (style == 2) {
         size = 5 * (int64_t)between(1, 2000);
     } else if (style == 3) {
-        size = fibonacci[below(MADE_COUNT(fibonacci))];
+        size = fibonacci[below(COUNT(fibonacci))];
     }
     return one_in(2) ? size : -size;
 }
@@ -152,7 +159,7 @@ static inline void random_legs(struct made_order *m, size_t legs) {
     uint64_t group = below(4), style = below(4);
     char option_type = one_in(2) ? 'C' : 'P';
     while (legs_of(m) < legs) {
-        uint64_t series = below(group < 2 ? MADE_LEGS : MADE_COUNT(taken));
+        uint64_t series = below(group < 2 ? MADE_LEGS : COUNT(taken));
         int64_t count = random_count(style);
         if (taken[series]) {
             continue;
@@ -179,10 +186,10 @@ static inline void random_settings(struct opc_settings *s) {
     uint64_t *amounts[] = {&s->tick_below_3000, &s->tick_from_3000, &s->net_increment,
                            &s->atd_below_1000,  &s->atd_to_2999,    &s->atd_to_9999,
                            &s->atd_from_10000,  &s->set_ticks};
-    for (size_t i = 0; i < MADE_COUNT(switches); i++) {
+    for (size_t i = 0; i < COUNT(switches); i++) {
         *switches[i] = switch_on();
     }
-    for (size_t i = 0; i < MADE_COUNT(amounts); i++) {
+    for (size_t i = 0; i < COUNT(amounts); i++) {
         *amounts[i] = one_in(8) ? between(2, 1000) : between(2, 20);
     }
     s->percentage = one_in(4) ? below(10001) : below(500);
@@ -203,12 +210,11 @@ static inline uint64_t value_near(uint64_t middle) {
 /* Market values near one price, so that the best bid and offer are at times locked or crossed. */
 static inline void random_market(struct opc_market *m) {
     uint64_t middle = one_in(3) ? between(101, 1200) : between(101, 40000);
-    uint64_t *values[] = {&m->underlying, &m->nbb,       &m->nbo,
-                          &m->own_bid,    &m->own_offer, &m->previous_close};
+    uint64_t *values[] = {MARKET_VALUES(m)};
     m->phase = one_in(2) ? OPC_PHASE_OPEN : below(3);
     m->open_elsewhere = flag();
     m->extended_hours = flag();
-    for (size_t i = 0; i < MADE_COUNT(values); i++) {
+    for (size_t i = 0; i < COUNT(values); i++) {
         *values[i] = value_near(middle);
     }
     if (one_in(8)) {
@@ -222,7 +228,7 @@ static inline int64_t random_price(const struct made_order *m) {
     const uint64_t near[] = {
         k->underlying, k->nbb, k->nbo, k->own_bid, k->own_offer, k->previous_close,
         100,           5000,   10000,  15000,      20000};
-    uint64_t size = near[below(MADE_COUNT(near))] + below(400);
+    uint64_t size = near[below(COUNT(near))] + below(400);
     if (one_in(16)) {
         size = below(1000000000001);
     }
@@ -272,33 +278,31 @@ static inline void damage_symbol(uint8_t symbol[OPC_SYMBOL_LENGTH]) {
 
 static inline void damage_count(struct made_order *m) {
     static const int64_t wrong[] = {0, 10001, -10001, INT64_MAX, INT64_MIN, 1LL << 32};
-    opc_write_count(wrong[below(MADE_COUNT(wrong))], count_at(m, below(legs_of(m))));
+    opc_write_count(wrong[below(COUNT(wrong))], count_at(m, below(legs_of(m))));
 }
 
 static inline void damage_price(struct made_order *m) {
     static const int64_t wrong[] = {1000000000001, -1000000000001, INT64_MAX, INT64_MIN};
-    m->price = wrong[below(MADE_COUNT(wrong))];
+    m->price = wrong[below(COUNT(wrong))];
 }
 
 static inline void damage_settings(struct opc_settings *s) {
-    uint64_t *fields[] = {&s->tick_below_3000, &s->tick_from_3000, &s->net_increment,
-                          &s->atd_below_1000,  &s->atd_to_2999,    &s->atd_to_9999,
-                          &s->atd_from_10000,  &s->percentage,     &s->preset_minimum,
-                          &s->preset_maximum,  &s->set_ticks};
-    *fields[below(MADE_COUNT(fields))] = one_in(2) ? 1000001 : next_random() | 1ULL << 63;
+    const struct limited fields[] = LIMITED_SETTINGS(s);
+    uint64_t wrong = one_in(2) ? 1000001 : next_random() | 1ULL << 63;
+    *fields[below(COUNT(fields))].field = wrong;
 }
 
 static inline void damage_market(struct opc_market *m) {
-    uint64_t *fields[] = {&m->phase,   &m->underlying, &m->nbb,           &m->nbo,
-                          &m->own_bid, &m->own_offer,  &m->previous_close};
-    *fields[below(MADE_COUNT(fields))] = one_in(2) ? 1000000001 : next_random() | 1ULL << 63;
+    uint64_t *fields[] = {&m->phase, MARKET_VALUES(m)};
+    uint64_t wrong = one_in(2) ? 1000000001 : next_random() | 1ULL << 63;
+    *fields[below(COUNT(fields))] = wrong;
 }
 
 /* The numbers that refuse an order, lowest first. */
 static const uint64_t refusals[] = {OPC_NOT_21_BYTES, OPC_BAD_LEG_COUNT, OPC_BAD_SYMBOL,
                                     OPC_BAD_COUNT,    OPC_SERIES_TWICE,  OPC_ROOTS_DIFFER,
                                     OPC_BAD_PRICE,    OPC_BAD_SETTING,   OPC_BAD_MARKET};
-#define REFUSALS MADE_COUNT(refusals)
+#define REFUSALS COUNT(refusals)
 
 /*
  * Damages an order of three legs or more so that `number`, one of the above, applies. A second

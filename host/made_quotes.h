@@ -46,7 +46,7 @@ static inline struct opc_quote lend_quote(const struct made_quote *q) {
 /* A bid at which some check could turn: near a market value or a strike, or any. */
 static inline uint64_t random_bid(const struct opc_market *k) {
     const uint64_t near[] = {k->underlying, k->nbb, k->nbo, k->own_bid, k->own_offer, 10000, 20000};
-    uint64_t bid = near[below(MADE_COUNT(near))] + below(200);
+    uint64_t bid = near[below(COUNT(near))] + below(200);
     if (one_in(16)) {
         bid = below(MOST_QUOTED - 200);
     }
@@ -97,7 +97,7 @@ static inline void damage_prices(struct made_quote *q) {
 /* The numbers that refuse a quote, lowest first. */
 static const uint64_t quote_refusals[] = {OPC_NOT_21_BYTES, OPC_BAD_SYMBOL, OPC_BAD_SETTING,
                                           OPC_BAD_MARKET, OPC_BAD_QUOTE};
-#define QUOTE_REFUSALS MADE_COUNT(quote_refusals)
+#define QUOTE_REFUSALS COUNT(quote_refusals)
 
 /* Damages a quote so that `number`, one of the above, applies. */
 static inline void damage_quote(struct made_quote *q, uint64_t number) {

@@ -3,6 +3,7 @@
  * what it answers; then counts some of them in tallies. Exit status 1 if an answer or a tally is
  * another than expected.
  */
+#include "answers.h"
 #include "option_price_check.h"
 
 #include <inttypes.h>
@@ -11,7 +12,6 @@
 #include <stdlib.h>
 
 #define MOST_LEGS 4
-#define COUNT(array) (sizeof(array) / sizeof(array)[0])
 
 static const uint64_t root_xyz = 0x58595a202020; /* the bytes "XYZ   " */
 
@@ -136,67 +136,6 @@ static const struct tallied_case not_counted[] = {
     {"T6", LEGS(t6), -24000, 12, {3, 0, 1, 1}},
 };
 
-static const char *meaning(uint64_t number) {
-    switch (number) {
-    case OPC_ACCEPTED:
-        return "accepted";
-    case OPC_NOT_21_BYTES:
-        return "not 21 bytes";
-    case OPC_BAD_LEG_COUNT:
-        return "number of legs";
-    case OPC_BAD_SYMBOL:
-        return "outside layout";
-    case OPC_BAD_COUNT:
-        return "count";
-    case OPC_SERIES_TWICE:
-        return "series twice";
-    case OPC_ROOTS_DIFFER:
-        return "roots differ";
-    case OPC_BAD_PRICE:
-        return "price";
-    case OPC_BAD_SETTING:
-        return "setting";
-    case OPC_BAD_MARKET:
-        return "market value";
-    case OPC_BAD_TALLY:
-        return "tally";
-    case OPC_CHECK_PUT:
-        return "put check";
-    case OPC_CHECK_CALL:
-        return "call check";
-    case OPC_CHECK_BUY_BUY:
-        return "buy-buy/sell-sell";
-    case OPC_CHECK_DEBIT_CREDIT:
-        return "debit/credit";
-    case OPC_CHECK_MAXIMUM_VALUE:
-        return "maximum value";
-    case OPC_CHECK_TICK_DISTANCE:
-        return "tick distance";
-    default:
-        return "unknown";
-    }
-}
-
-static const char *class_name(uint64_t class_) {
-    static const char *const names[] = {
-        [OPC_CLASS_UNDETERMINED] = "undetermined",
-        [OPC_CLASS_DEBIT] = "debit",
-        [OPC_CLASS_CREDIT] = "credit",
-    };
-    return class_ < COUNT(names) ? names[class_] : "unknown";
-}
-
-static const char *shape_name(uint64_t shape) {
-    static const char *const names[] = {
-        [OPC_SHAPE_OTHER] = "other",
-        [OPC_SHAPE_VERTICAL] = "vertical",
-        [OPC_SHAPE_TRUE_BUTTERFLY] = "true butterfly",
-        [OPC_SHAPE_SKEWED_BUTTERFLY] = "skewed butterfly",
-        [OPC_SHAPE_BOX] = "box",
-    };
-    return shape < COUNT(names) ? names[shape] : "unknown";
-}
-
 /* Writes a leg's 21 symbol bytes and the 8 bytes of its count. */
 static void write_leg(const struct leg *leg, uint8_t *symbol, uint8_t *count) {
     struct opc_symbol_parts parts = {
@@ -268,28 +207,18 @@ static void print_price(int64_t price, int width) {
     printf("%*s", width, text);
 }
 
-static bool same(const struct opc_answer *a, const struct opc_answer *b) {
-    return a->number == b->number && a->class_ == b->class_ && a->shape == b->shape &&
-           a->pairings == b->pairings;
-}
-
 static bool show(const struct order_case *c) {
     struct opc_answer a = answer_to(c);
-    bool expected = same(&a, &c->expected);
+    bool expected = same_answer(&a, &c->expected);
     printf("%-4s  %-14s  ", c->name, c->given->words);
     print_legs(c->legs, c->len, 46);
     print_price(c->price, 9);
-    printf("  %2" PRIu64 " %-17s", a.number, meaning(a.number));
+    printf("  %2" PRIu64 " %-17s", a.number, number_name(a.number));
     printf("  %" PRIu64 " %-12s", a.class_, class_name(a.class_));
     printf("  %" PRIu64 " %-16s", a.shape, shape_name(a.shape));
     printf("  %" PRIu64 " %s", a.pairings, a.pairings == 1 ? "pairing" : "pairings");
     printf("%s\n", expected ? "" : "  NOT AS EXPECTED");
     return expected;
-}
-
-static bool same_tally(const struct opc_tally *a, const struct opc_tally *b) {
-    return a->seen == b->seen && a->refused == b->refused && a->accepted == b->accepted &&
-           a->rejected == b->rejected;
 }
 
 static void print_tally(const struct opc_tally *t) {
@@ -308,7 +237,7 @@ static bool show_tallied(const struct tallied_case *c, struct opc_tally *tally) 
     printf("%-7s  ", c->name);
     print_legs(c->legs, c->len, 46);
     print_price(c->price, 9);
-    printf("  %2" PRIu64 " %-17s", a.number, meaning(a.number));
+    printf("  %2" PRIu64 " %-17s", a.number, number_name(a.number));
     print_tally(tally);
     printf("%s\n", expected ? "" : "  NOT AS EXPECTED");
     return expected;

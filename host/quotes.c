@@ -2,6 +2,7 @@
  * Checks quotes through the proved library, and prints what it answers: one quote for each number
  * that a quote can get. Exit status 1 if an answer is another than expected.
  */
+#include "answers.h"
 #include "option_price_check.h"
 
 #include <inttypes.h>
@@ -9,8 +10,6 @@
 #include <stdio.h>
 #include <stdlib.h>
 #include <string.h>
-
-#define COUNT(array) (sizeof(array) / sizeof(array)[0])
 
 /* What a case gives beside the quote; all else is document 01's example settings, and missing. */
 struct given {
@@ -44,31 +43,6 @@ static const struct quote_case cases[] = {
     {"NBO, own offer 1.20", &offers_1_20, "XYZ   270115C00020000", 1241, 1300, 1, {26, 1}},
 };
 
-static const char *meaning(uint64_t number) {
-    switch (number) {
-    case OPC_ACCEPTED:
-        return "accepted";
-    case OPC_NOT_21_BYTES:
-        return "not 21 bytes";
-    case OPC_BAD_SYMBOL:
-        return "outside layout";
-    case OPC_BAD_SETTING:
-        return "setting";
-    case OPC_BAD_MARKET:
-        return "market value";
-    case OPC_BAD_QUOTE:
-        return "bid and offer";
-    case OPC_CHECK_PUT:
-        return "put check";
-    case OPC_CHECK_CALL:
-        return "call check";
-    case OPC_CHECK_QUOTE_INVERSION:
-        return "quote inversion";
-    default:
-        return "unknown";
-    }
-}
-
 static struct opc_quote_answer answer_to(const struct quote_case *c) {
     struct opc_quote quote = {
         .symbol = (const uint8_t *)c->symbol,
@@ -98,7 +72,7 @@ static bool show(const struct quote_case *c) {
     print_price(c->bid);
     print_price(c->offer);
     printf("  %-7s", c->resting == 0 ? "no" : "yes");
-    printf("  %2" PRIu64 " %-15s", a.number, meaning(a.number));
+    printf("  %2" PRIu64 " %-15s", a.number, number_name(a.number));
     printf("  %" PRIu64 " %s", a.cancel, a.cancel == 0 ? "no" : "yes");
     printf("%s\n", expected ? "" : "  NOT AS EXPECTED");
     return expected;

@@ -117,7 +117,7 @@ static size_t write_inputs(void) {
                               &parts.day,  &parts.option_type, &parts.strike};
         buffer_len = one_in(4) ? below(sizeof buffer) : OPC_SYMBOL_LENGTH;
         if (one_in(2)) {
-            *fields[below(MADE_COUNT(fields))] += next_random() >> below(64);
+            *fields[below(COUNT(fields))] += next_random() >> below(64);
         }
         on_painted_stack(call_write);
     }
@@ -198,7 +198,7 @@ int main(void) {
     on_painted_stack(call_nothing);
     size_t baseline = deepest();
     printf("| entry | inputs | deepest stack in bytes | of a stack of |\n|---|---|---|---|\n");
-    for (size_t i = 0; i < MADE_COUNT(entries); i++) {
+    for (size_t i = 0; i < COUNT(entries); i++) {
         paint_stack();
         size_t inputs = entries[i].run();
         size_t bytes = deepest() - baseline;

@@ -2,6 +2,7 @@
  * Reads and writes option symbols through the proved library, and prints what it answers: symbols
  * that it accepts, and one of each kind that it refuses.
  */
+#include "answers.h"
 #include "option_price_check.h"
 
 #include <inttypes.h>
@@ -44,21 +45,6 @@ static const struct write_case write_cases[] = {
     {"strike 100000000", "SPX", 2014, 11, 22, 'P', 100000000, OPC_SYMBOL_LENGTH},
 };
 
-static const char *meaning(uint64_t number) {
-    switch (number) {
-    case OPC_ACCEPTED:
-        return "accepted";
-    case OPC_NOT_21_BYTES:
-        return "not 21 bytes";
-    case OPC_SHORT_BUFFER:
-        return "short buffer";
-    case OPC_BAD_SYMBOL:
-        return "outside layout";
-    default:
-        return "unknown";
-    }
-}
-
 static uint64_t root_from_text(const char *text) {
     size_t length = strlen(text);
     uint64_t root = 0;
@@ -84,7 +70,7 @@ static void print_parts(const struct opc_symbol_parts *parts) {
 static void show_read(const struct read_case *c) {
     struct opc_symbol_parts parts;
     uint64_t number = opc_read_symbol_parts((const uint8_t *)c->symbol, strlen(c->symbol), &parts);
-    printf("%-21s  %-21s  %" PRIu64 " %-14s  ", c->about, c->symbol, number, meaning(number));
+    printf("%-21s  %-21s  %" PRIu64 " %-14s  ", c->about, c->symbol, number, number_name(number));
     if (number == OPC_ACCEPTED) {
         print_parts(&parts);
     } else {
@@ -107,7 +93,7 @@ static void show_write(const struct write_case *c) {
     uint64_t length = opc_write_symbol_parts(&parts, out, c->buffer, &number);
     printf("%-21s  ", c->about);
     print_parts(&parts);
-    printf("  %6zu  %" PRIu64 " %-14s  ", c->buffer, number, meaning(number));
+    printf("  %6zu  %" PRIu64 " %-14s  ", c->buffer, number, number_name(number));
     if (length > 0) {
         printf("%.*s\n", (int)length, (const char *)out);
     } else {
@@ -119,13 +105,13 @@ int main(void) {
     printf("Reading\n");
     printf("%-21s  %-21s  %-16s  %-6s  %-10s  %-4s  %10s\n", "case", "symbol", "number", "root",
            "expiry", "type", "strike");
-    for (size_t i = 0; i < sizeof read_cases / sizeof read_cases[0]; i++) {
+    for (size_t i = 0; i < COUNT(read_cases); i++) {
         show_read(&read_cases[i]);
     }
     printf("\nWriting\n");
     printf("%-21s  %-6s  %-10s  %-4s  %10s  %6s  %-16s  %s\n", "case", "root", "expiry", "type",
            "strike", "buffer", "number", "bytes out");
-    for (size_t i = 0; i < sizeof write_cases / sizeof write_cases[0]; i++) {
+    for (size_t i = 0; i < COUNT(write_cases); i++) {
         show_write(&write_cases[i]);
     }
     return 0;

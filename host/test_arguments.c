@@ -4,19 +4,16 @@
  * that a wrapper carries to a wrong place is seen whatever a check would make of it. Exit status 1
  * and a message on the first failure, one line with the number of checks otherwise.
  */
+#include "count.h"
+#include "expect.h"
 #include "option_price_check.h"
 
-#include <inttypes.h>
-#include <stdbool.h>
-#include <stdio.h>
-#include <stdlib.h>
 #include <string.h>
 
 #define ROUNDS 1000
 #define TERMS 5
 #define SETTINGS 20
 #define MARKET 9
-#define COUNT(array) (sizeof(array) / sizeof(array)[0])
 
 _Static_assert(sizeof(struct opc_settings) == SETTINGS * sizeof(uint64_t), "twenty settings");
 _Static_assert(sizeof(struct opc_market) == MARKET * sizeof(uint64_t), "nine market values");
@@ -50,6 +47,8 @@ _Static_assert(sizeof(struct opc_market) == MARKET * sizeof(uint64_t), "nine mar
             previous_close                                                                         \
     }
 
+static const char *const test_name = "test_arguments";
+
 /* What an entry was given last; of a quote, bid, offer and resting are the first three terms. */
 static struct {
     const uint8_t *symbols, *counts;
@@ -65,7 +64,8 @@ static struct {
     struct opc_quote_answer quote;
 } told;
 
-static uint64_t checks;
+/* The values are arbitrary: `what` says all that there is to say of a failure. */
+static void print_tried(void) {}
 
 static void keep(const uint64_t *terms, const uint64_t *settings, const uint64_t *market) {
     memcpy(given.terms, terms, sizeof given.terms);
@@ -113,14 +113,6 @@ uint64_t opc_check_quote(const uint8_t *symbol, size_t symbol_len, uint64_t bid,
     keep((const uint64_t[TERMS]){bid, offer, resting}, SETTINGS_GIVEN, MARKET_GIVEN);
     *cancel = told.quote.cancel;
     return told.quote.number;
-}
-
-static void expect(bool holds, const char *what) {
-    checks++;
-    if (!holds) {
-        fprintf(stderr, "test_arguments: %s, at check %" PRIu64 "\n", what, checks);
-        exit(1);
-    }
 }
 
 /* Values that do not repeat: a step of an odd constant through all 64 bits. */
@@ -274,6 +266,5 @@ int main(void) {
     }
     test_initializers();
     test_counts();
-    printf("test_arguments: %" PRIu64 " checks hold\n", checks);
-    return 0;
+    return all_hold();
 }

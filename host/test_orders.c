@@ -3,52 +3,29 @@
  * and a message on the first failure, one line with the number of checks otherwise.
  */
 #define _DEFAULT_SOURCE /* for lent_bytes.h */
+#include "answers.h"
+#include "expect.h"
+#include "expect_terms.h"
 #include "lent_bytes.h"
 #include "made_orders.h"
 #include "option_price_check.h"
 
-#include <stdlib.h>
-
 #define RANDOM_CASES 100000
+
+static const char *const test_name = "test_orders";
 
 /* The order tried last, for the message of a failure. */
 static struct made_order now;
-static uint64_t checks;
 
-static void print_numbers(const char *what, const uint64_t *numbers, size_t len) {
-    fprintf(stderr, "  %s:", what);
-    for (size_t i = 0; i < len; i++) {
-        fprintf(stderr, " %" PRIu64, numbers[i]);
-    }
-    fprintf(stderr, "\n");
-}
-
-static _Noreturn void fail(const char *what) {
-    const uint64_t settings[] = {EACH_OF_SETTINGS(&now.settings)};
-    const uint64_t market[] = {EACH_OF_MARKET(&now.market)};
+static void print_tried(void) {
     const uint64_t flags[] = {now.kind, now.stop, now.manual, now.opening};
-    fprintf(stderr, "test_orders: %s, at check %" PRIu64 "\n", what, checks);
     fprintf(stderr, "  symbols: %.*s\n  counts:", (int)now.symbols_len, (const char *)now.symbols);
     for (size_t i = 0; i < now.counts_len; i++) {
         fprintf(stderr, "%s%02x", i % OPC_COUNT_LENGTH == 0 ? " " : "", now.counts[i]);
     }
     fprintf(stderr, "\n  price: %" PRId64 "\n", now.price);
-    print_numbers("kind, stop, manual, opening", flags, MADE_COUNT(flags));
-    print_numbers("settings", settings, MADE_COUNT(settings));
-    print_numbers("market", market, MADE_COUNT(market));
-    exit(1);
-}
-
-static void expect(bool holds, const char *what) {
-    checks++;
-    if (!holds) {
-        fail(what);
-    }
-}
-
-static bool same(const struct opc_answer *a, const struct opc_answer *b) {
-    return a->number == b->number && a->class_ == b->class_ && a->shape == b->shape &&
-           a->pairings == b->pairings;
+    print_numbers("kind, stop, manual, opening", flags, COUNT(flags));
+    print_terms(&now.settings, &now.market);
 }
 
 static struct opc_answer raw_answer(const struct opc_order *o, const struct opc_settings *s,
@@ -96,8 +73,8 @@ static struct opc_answer answer(const struct made_order *made) {
     struct opc_answer raw = raw_answer(&order, &made->settings, &made->market, garbage);
     struct opc_answer again = raw_answer(&order, &made->settings, &made->market, ~garbage);
     struct opc_answer wrapped = opc_answer_order(&order, &made->settings, &made->market);
-    expect(same(&raw, &again), "a lent number is not set");
-    expect(same(&raw, &wrapped), "the wrapper gives another answer");
+    expect(same_answer(&raw, &again), "a lent number is not set");
+    expect(same_answer(&raw, &wrapped), "the wrapper gives another answer");
     expect(are_kept(&symbols), "a symbol byte is not kept");
     expect(are_kept(&counts), "a count byte is not kept");
     expect_limits(&raw, legs_of(made));
@@ -293,7 +270,7 @@ static void test_refused(void) {
 
 static void test_price_limits(void) {
     static const int64_t wrong[] = {0, -1, 1000000000001, -1000000000001, INT64_MAX, INT64_MIN};
-    for (size_t i = 0; i < MADE_COUNT(wrong); i++) {
+    for (size_t i = 0; i < COUNT(wrong); i++) {
         struct made_order m = one_call();
         m.price = wrong[i];
         expect_refused(&m, OPC_BAD_PRICE);
@@ -322,7 +299,7 @@ static void test_count_limits(void) {
         {1, true},          {10000, true},          {-1, true},         {-10000, true},
         {0, false},         {10001, false},         {-10001, false},    {INT64_MAX, false},
         {INT64_MIN, false}, {INT64_MIN + 1, false}, {1LL << 32, false}, {256LL << 48, false}};
-    for (size_t i = 0; i < MADE_COUNT(counts); i++) {
+    for (size_t i = 0; i < COUNT(counts); i++) {
         struct made_order m = one_call();
         opc_write_count(counts[i].count, m.counts);
         m.price = counts[i].count < 0 ? -1000 : 1000;
@@ -331,56 +308,19 @@ static void test_count_limits(void) {
     }
 }
 
-/* Each field with a limit, at it and one beyond it. */
-static void expect_within(struct made_order *m, uint64_t *field, uint64_t least, uint64_t most,
-                          uint64_t number) {
-    uint64_t kept = *field;
-    *field = least;
-    expect(answer(m).number == OPC_ACCEPTED, "the least value is refused");
-    *field = most;
-    expect(answer(m).number == OPC_ACCEPTED, "the most value is refused");
-    *field = most + 1;
-    expect_refused(m, number);
-    *field = UINT64_MAX;
-    expect_refused(m, number);
-    if (least > 0) {
-        *field = least - 1;
-        expect_refused(m, number);
+static void expect_order(void *made, uint64_t number, const char *what) {
+    if (number == OPC_ACCEPTED) {
+        expect(answer(made).number == OPC_ACCEPTED, what);
+    } else {
+        expect_refused(made, number);
     }
-    *field = kept;
 }
 
-static void test_setting_limits(void) {
+static void test_limits(void) {
     struct made_order m = vertical(1000);
-    struct opc_settings *s = &m.settings;
-    const struct {
-        uint64_t *field, least, most;
-    } fields[] = {
-        {&s->tick_below_3000, 1, 1000}, {&s->tick_from_3000, 1, 1000},
-        {&s->net_increment, 1, 1000},   {&s->atd_below_1000, 2, 1000},
-        {&s->atd_to_2999, 2, 1000},     {&s->atd_to_9999, 2, 1000},
-        {&s->atd_from_10000, 2, 1000},  {&s->percentage, 0, 10000},
-        {&s->preset_minimum, 0, 600},   {&s->preset_maximum, 0, 1000000},
-        {&s->set_ticks, 0, 1000},
-    };
-    for (size_t i = 0; i < MADE_COUNT(fields); i++) {
-        expect_within(&m, fields[i].field, fields[i].least, fields[i].most, OPC_BAD_SETTING);
-    }
-    s->preset_maximum = 1000000;
-    expect_within(&m, &s->preset_minimum, 0, 1000000, OPC_BAD_SETTING);
-    s->preset_minimum = 700;
-    expect_within(&m, &s->preset_maximum, 700, 1000000, OPC_BAD_SETTING);
-}
-
-static void test_market_limits(void) {
-    struct made_order m = vertical(1000);
-    struct opc_market *k = &m.market;
-    uint64_t *const values[] = {&k->underlying, &k->nbb,       &k->nbo,
-                                &k->own_bid,    &k->own_offer, &k->previous_close};
-    expect_within(&m, &k->phase, 0, 2, OPC_BAD_MARKET);
-    for (size_t i = 0; i < MADE_COUNT(values); i++) {
-        expect_within(&m, values[i], 0, 1000000000, OPC_BAD_MARKET);
-    }
+    expect_setting_limits(expect_order, &m, &m.settings);
+    m = vertical(1000);
+    expect_market_limits(expect_order, &m, &m.market);
 }
 
 /* An order for each check, rejected with its switch at any value but 0. */
@@ -404,7 +344,7 @@ static void test_switches(void) {
         {&most, &most.settings.check_24, OPC_CHECK_MAXIMUM_VALUE},
         {&far, &far.settings.check_25, OPC_CHECK_TICK_DISTANCE},
     };
-    for (size_t i = 0; i < MADE_COUNT(cases); i++) {
+    for (size_t i = 0; i < COUNT(cases); i++) {
         *cases[i].on = UINT64_MAX - below(1000);
         expect(answer(cases[i].m).number == cases[i].number, "not rejected as expected");
         *cases[i].on = 1ULL << 32;
@@ -479,7 +419,7 @@ static void test_bands(void) {
         {999, 2 * 7},     {1000, 30 * 7},    {2999, 30 * 7},    {3000, 400 * 11},
         {9999, 400 * 11}, {10000, 500 * 11}, {30000, 500 * 11},
     };
-    for (size_t i = 0; i < MADE_COUNT(bands); i++) {
+    for (size_t i = 0; i < COUNT(bands); i++) {
         struct made_order m = one_call();
         m.settings.tick_below_3000 = 7;
         m.settings.tick_from_3000 = 11;
@@ -514,7 +454,7 @@ static void test_presets(void) {
         {300, 0, 600, 5150},        {300, 200, 600, 5200}, {300, 0, 100, 5100}, {0, 0, 600, 5000},
         {10000, 0, 1000000, 10000}, {3, 0, 600, 5001},     {10000, 0, 0, 5000},
     };
-    for (size_t i = 0; i < MADE_COUNT(cases); i++) {
+    for (size_t i = 0; i < COUNT(cases); i++) {
         struct made_order m = vertical(cases[i].most);
         m.settings.percentage = cases[i].percentage;
         m.settings.preset_minimum = cases[i].minimum;
@@ -570,7 +510,7 @@ static void test_random_valid(void) {
         seen[a.number]++;
         shuffle_legs(&m);
         struct opc_answer shuffled = answer(&m);
-        expect(same(&a, &shuffled), "the sequence of the legs matters");
+        expect(same_answer(&a, &shuffled), "the sequence of the legs matters");
     }
     expect(seen[OPC_ACCEPTED] > 0, "no order was accepted");
     for (uint64_t number = OPC_CHECK_PUT; number <= OPC_CHECK_TICK_DISTANCE; number++) {
@@ -588,8 +528,7 @@ int main(void) {
     test_refused();
     test_price_limits();
     test_count_limits();
-    test_setting_limits();
-    test_market_limits();
+    test_limits();
     test_switches();
     test_flags();
     test_references();
@@ -598,6 +537,5 @@ int main(void) {
     test_null();
     test_random_damaged();
     test_random_valid();
-    printf("test_orders: %" PRIu64 " checks hold\n", checks);
-    return 0;
+    return all_hold();
 }

@@ -3,11 +3,11 @@
  * and a message on the first failure, one line with the number of checks otherwise.
  */
 #define _DEFAULT_SOURCE /* for lent_bytes.h */
+#include "expect.h"
+#include "expect_terms.h"
 #include "lent_bytes.h"
 #include "made_quotes.h"
 #include "option_price_check.h"
-
-#include <stdlib.h>
 
 #define RANDOM_CASES 100000
 
@@ -17,35 +17,16 @@ static const char put_20[] = "XYZ   270115P00020000";
 /* Every value but 0 is yes. */
 static const uint64_t yes[] = {1, 2, 1ULL << 32, UINT64_MAX};
 
+static const char *const test_name = "test_quotes";
+
 /* The quote tried last, for the message of a failure. */
 static struct made_quote now;
-static uint64_t checks;
 
-static void print_numbers(const char *what, const uint64_t *numbers, size_t len) {
-    fprintf(stderr, "  %s:", what);
-    for (size_t i = 0; i < len; i++) {
-        fprintf(stderr, " %" PRIu64, numbers[i]);
-    }
-    fprintf(stderr, "\n");
-}
-
-static _Noreturn void fail(const char *what) {
+static void print_tried(void) {
     const uint64_t prices[] = {now.bid, now.offer, now.resting};
-    const uint64_t settings[] = {EACH_OF_SETTINGS(&now.settings)};
-    const uint64_t market[] = {EACH_OF_MARKET(&now.market)};
-    fprintf(stderr, "test_quotes: %s, at check %" PRIu64 "\n", what, checks);
     fprintf(stderr, "  symbol: %.*s\n", (int)now.symbol_len, (const char *)now.symbol);
-    print_numbers("bid, offer, resting", prices, MADE_COUNT(prices));
-    print_numbers("settings", settings, MADE_COUNT(settings));
-    print_numbers("market", market, MADE_COUNT(market));
-    exit(1);
-}
-
-static void expect(bool holds, const char *what) {
-    checks++;
-    if (!holds) {
-        fail(what);
-    }
+    print_numbers("bid, offer, resting", prices, COUNT(prices));
+    print_terms(&now.settings, &now.market);
 }
 
 static bool same(const struct opc_quote_answer *a, const struct opc_quote_answer *b) {
@@ -95,7 +76,7 @@ static void expect_number(struct made_quote *made, uint64_t number, const char *
     uint64_t kept = made->resting;
     made->resting = 0;
     expect(number_of(made) == number, what);
-    for (size_t i = 0; i < MADE_COUNT(yes); i++) {
+    for (size_t i = 0; i < COUNT(yes); i++) {
         made->resting = yes[i];
         expect(number_of(made) == number, what);
     }
@@ -122,7 +103,7 @@ static void test_symbols(void) {
         bool whole = len == OPC_SYMBOL_LENGTH;
         expect_number(&q, whole ? OPC_ACCEPTED : OPC_NOT_21_BYTES, "1 by another length");
     }
-    for (size_t i = 0; i < MADE_COUNT(wrong); i++) {
+    for (size_t i = 0; i < COUNT(wrong); i++) {
         q = quote_for(wrong[i], 1000, 1100);
         expect_number(&q, OPC_BAD_SYMBOL, "a symbol outside the layout");
     }
@@ -164,80 +145,57 @@ static void test_prices(void) {
         {UINT64_MAX - 1, UINT64_MAX, false},
         {1ULL << 32, (1ULL << 32) + 500, false},
     };
-    for (size_t i = 0; i < MADE_COUNT(cases); i++) {
+    for (size_t i = 0; i < COUNT(cases); i++) {
         struct made_quote q = quote_for(call_20, cases[i].bid, cases[i].offer);
         expect_number(&q, cases[i].fits ? OPC_ACCEPTED : OPC_BAD_QUOTE, "a limit of bid or offer");
     }
 }
 
-/* Each field with a limit, at it and one beyond it. */
-static void expect_within(struct made_quote *q, uint64_t *field, uint64_t least, uint64_t most,
-                          uint64_t number) {
-    uint64_t kept = *field;
-    *field = least;
-    expect_number(q, OPC_ACCEPTED, "the least value is refused");
-    *field = most;
-    expect_number(q, OPC_ACCEPTED, "the most value is refused");
-    *field = most + 1;
-    expect_number(q, number, "a value above its limit");
-    *field = UINT64_MAX;
-    expect_number(q, number, "a value above its limit");
-    if (least > 0) {
-        *field = least - 1;
-        expect_number(q, number, "a value below its limit");
-    }
-    *field = kept;
+static void expect_quote(void *made, uint64_t number, const char *what) {
+    expect_number(made, number, what);
 }
 
 /* Settings are tested whether a quote uses them or not, and though every check is off. */
 static void test_setting_limits(void) {
     struct made_quote q = one_quote();
-    struct opc_settings *s = &q.settings;
-    const struct {
-        uint64_t *field, least, most;
-    } fields[] = {
-        {&s->tick_below_3000, 1, 1000}, {&s->tick_from_3000, 1, 1000},
-        {&s->net_increment, 1, 1000},   {&s->atd_below_1000, 2, 1000},
-        {&s->atd_to_2999, 2, 1000},     {&s->atd_to_9999, 2, 1000},
-        {&s->atd_from_10000, 2, 1000},  {&s->percentage, 0, 10000},
-        {&s->preset_minimum, 0, 600},   {&s->preset_maximum, 0, 1000000},
-        {&s->set_ticks, 0, 1000},
-    };
-    for (size_t i = 0; i < MADE_COUNT(fields); i++) {
-        expect_within(&q, fields[i].field, fields[i].least, fields[i].most, OPC_BAD_SETTING);
-    }
-    s->preset_maximum = 1000000;
-    expect_within(&q, &s->preset_minimum, 0, 1000000, OPC_BAD_SETTING);
-    s->preset_minimum = 700;
-    expect_within(&q, &s->preset_maximum, 700, 1000000, OPC_BAD_SETTING);
-    switch_off(s);
-    for (size_t i = 0; i < MADE_COUNT(fields); i++) {
+    expect_setting_limits(expect_quote, &q, &q.settings);
+    switch_off(&q.settings);
+    const struct limited fields[] = LIMITED_SETTINGS(&q.settings);
+    for (size_t i = 0; i < COUNT(fields); i++) {
+        uint64_t kept = *fields[i].field;
         *fields[i].field = 1000001;
         expect_number(&q, OPC_BAD_SETTING, "a setting above its limit, with every check off");
-        *fields[i].field = fields[i].most;
+        *fields[i].field = kept;
     }
 }
 
 static void test_market_limits(void) {
     struct made_quote q = one_quote();
-    struct opc_market *k = &q.market;
-    uint64_t *const values[] = {&k->underlying, &k->nbb,       &k->nbo,
-                                &k->own_bid,    &k->own_offer, &k->previous_close};
     switch_off(&q.settings); /* so that the limits of a value are accepted */
-    expect_within(&q, &k->phase, 0, 2, OPC_BAD_MARKET);
-    for (size_t i = 0; i < MADE_COUNT(values); i++) {
-        expect_within(&q, values[i], 0, 1000000000, OPC_BAD_MARKET);
-    }
+    expect_market_limits(expect_quote, &q, &q.market);
 }
 
-/* One below, at and above the bid from which a check rejects. */
-static void expect_rejected_from(struct made_quote *q, uint64_t first, uint64_t number) {
-    q->bid = first - 1;
-    expect_number(q, OPC_ACCEPTED, "a bid below is rejected");
-    q->bid = first;
-    expect_number(q, number, "a bid at the value is not rejected");
-    q->bid = first + 1;
-    expect_number(q, number, "a bid above the value is not rejected");
+/*
+ * One before, at and beyond the price from which a check rejects: upwards for a bid, downwards for
+ * an offer. The other price stays.
+ */
+static void expect_rejected_from(struct made_quote *q, uint64_t *price, uint64_t first,
+                                 uint64_t number) {
+    bool upwards = price == &q->bid;
+    *price = upwards ? first - 1 : first + 1;
+    expect_number(q, OPC_ACCEPTED, "a price short of the limit is rejected");
+    *price = first;
+    expect_number(q, number, "a price at the limit is not rejected");
+    *price = upwards ? first + 1 : first - 1;
+    expect_number(q, number, "a price beyond the limit is not rejected");
+}
+
+/* Offers about a value that the bid alone is held against. */
+static void expect_offers_accepted(struct made_quote *q, uint64_t value) {
+    q->bid = value - 2;
+    for (q->offer = value - 1; q->offer <= value + 1; q->offer++) {
+        expect_number(q, OPC_ACCEPTED, "an offer is tested as a bid is");
+    }
 }
 
 /* Check 20 in every phase, whatever the class and the hours; it tests the bid, not the offer. */
@@ -249,11 +207,8 @@ static void test_put(void) {
             q.market.underlying = 1;
             q.settings.adjusted = flags % 2;
             q.market.extended_hours = flags / 2;
-            expect_rejected_from(&q, 20000, OPC_CHECK_PUT);
-            q.bid = 19998;
-            for (q.offer = 19999; q.offer <= 20001; q.offer++) {
-                expect_number(&q, OPC_ACCEPTED, "an offer is tested against the strike");
-            }
+            expect_rejected_from(&q, &q.bid, 20000, OPC_CHECK_PUT);
+            expect_offers_accepted(&q, 20000);
             q = quote_for(call_20, 30000, 30001);
             q.market.phase = phase;
             expect_number(&q, OPC_ACCEPTED, "a call is tested against its strike");
@@ -267,11 +222,8 @@ static void test_call(void) {
         struct made_quote q = quote_for(call_20, 1, MOST_QUOTED);
         q.market.phase = phase;
         q.market.underlying = 10000;
-        expect_rejected_from(&q, 10000, OPC_CHECK_CALL);
-        q.bid = 9998;
-        for (q.offer = 9999; q.offer <= 10001; q.offer++) {
-            expect_number(&q, OPC_ACCEPTED, "an offer is tested against the underlying");
-        }
+        expect_rejected_from(&q, &q.bid, 10000, OPC_CHECK_CALL);
+        expect_offers_accepted(&q, 10000);
         q = quote_for(put_20, 11000, 11001);
         q.market.phase = phase;
         q.market.underlying = 10000;
@@ -284,7 +236,7 @@ static void test_call_left_out(void) {
     expect_number(&q, OPC_ACCEPTED, "a bid is tested against a missing underlying");
     q.market.underlying = 10000;
     expect_number(&q, OPC_CHECK_CALL, "a bid above the underlying is not rejected");
-    for (size_t i = 0; i < MADE_COUNT(yes); i++) {
+    for (size_t i = 0; i < COUNT(yes); i++) {
         q.settings.adjusted = yes[i];
         expect_number(&q, OPC_ACCEPTED, "an adjusted class is tested against a call");
         q.settings.adjusted = 0;
@@ -297,10 +249,7 @@ static void test_call_left_out(void) {
 /* A side that no price of its own inverts. */
 #define NEVER 0
 
-/*
- * The least bid that inverts the market: one below is accepted, it and one above are rejected. The
- * offer is as far away as can be, and so inverts nothing.
- */
+/* The least bid that inverts the market; the offer is as far away as can be. */
 static void expect_bids(struct made_quote *q, uint64_t least) {
     q->offer = MOST_QUOTED;
     if (least == NEVER) {
@@ -308,12 +257,7 @@ static void expect_bids(struct made_quote *q, uint64_t least) {
         expect_number(q, OPC_ACCEPTED, "the greatest bid is rejected");
         return;
     }
-    q->bid = least - 1;
-    expect_number(q, OPC_ACCEPTED, "a bid that does not invert is rejected");
-    q->bid = least;
-    expect_number(q, OPC_CHECK_QUOTE_INVERSION, "the least bid that inverts is not rejected");
-    q->bid = least + 1;
-    expect_number(q, OPC_CHECK_QUOTE_INVERSION, "a bid that inverts is not rejected");
+    expect_rejected_from(q, &q->bid, least, OPC_CHECK_QUOTE_INVERSION);
 }
 
 /* The mirror: the greatest offer that inverts the market. */
@@ -324,12 +268,7 @@ static void expect_offers(struct made_quote *q, uint64_t greatest) {
         expect_number(q, OPC_ACCEPTED, "the least offer is rejected");
         return;
     }
-    q->offer = greatest + 1;
-    expect_number(q, OPC_ACCEPTED, "an offer that does not invert is rejected");
-    q->offer = greatest;
-    expect_number(q, OPC_CHECK_QUOTE_INVERSION, "the greatest offer that inverts is not rejected");
-    q->offer = greatest - 1;
-    expect_number(q, OPC_CHECK_QUOTE_INVERSION, "an offer that inverts is not rejected");
+    expect_rejected_from(q, &q->offer, greatest, OPC_CHECK_QUOTE_INVERSION);
 }
 
 /* The best bid and offer, the exchange's own, and from where a bid or an offer inverts them. */
@@ -346,16 +285,15 @@ static void set_prices(struct opc_market *k, const struct inversion *c) {
 
 /* Open, or before the opening with the series open elsewhere: 26 applies; else never. */
 static void expect_inversion(struct made_quote *q, const struct inversion *c) {
-    static const struct inversion none;
     set_prices(&q->market, c);
     for (uint64_t phase = OPC_PHASE_PRE_OPENING; phase <= OPC_PHASE_HALT; phase++) {
-        for (size_t i = 0; i <= MADE_COUNT(yes); i++) {
-            bool elsewhere = i < MADE_COUNT(yes);
+        for (size_t i = 0; i <= COUNT(yes); i++) {
+            bool elsewhere = i < COUNT(yes);
             bool applies = phase == OPC_PHASE_OPEN || (phase == OPC_PHASE_PRE_OPENING && elsewhere);
             q->market.phase = phase;
             q->market.open_elsewhere = elsewhere ? yes[i] : 0;
-            expect_bids(q, applies ? c->least_bid : none.least_bid);
-            expect_offers(q, applies ? c->greatest_offer : none.greatest_offer);
+            expect_bids(q, applies ? c->least_bid : NEVER);
+            expect_offers(q, applies ? c->greatest_offer : NEVER);
         }
     }
 }
@@ -420,11 +358,15 @@ static struct made_quote inverting_quote(const char *symbol) {
     return q;
 }
 
+static void expect_inversions(struct made_quote *q) {
+    for (size_t i = 0; i < COUNT(inversions); i++) {
+        expect_inversion(q, &inversions[i]);
+    }
+}
+
 static void test_inversions(void) {
     struct made_quote q = inverting_quote(call_20);
-    for (size_t i = 0; i < MADE_COUNT(inversions); i++) {
-        expect_inversion(&q, &inversions[i]);
-    }
+    expect_inversions(&q);
 }
 
 /* What check 26 leaves out of account: type, class, hours, close, underlying, other settings. */
@@ -439,9 +381,7 @@ static void test_inversions_whatever_else(void) {
     q.market.extended_hours = 1;
     q.market.underlying = 1;
     q.market.previous_close = 1100;
-    for (size_t i = 0; i < MADE_COUNT(inversions); i++) {
-        expect_inversion(&q, &inversions[i]);
-    }
+    expect_inversions(&q);
 }
 
 /* The distance is the set ticks times the tick, from none to the most. */
@@ -459,7 +399,7 @@ static void test_set_ticks(void) {
         {1000, 1000, {0, 0, 2000000, 2000001, 3000002, 999999}},
         {0, 10, {0, 0, 2000000, 2000001, 2000002, 1999999}},
     };
-    for (size_t i = 0; i < MADE_COUNT(cases); i++) {
+    for (size_t i = 0; i < COUNT(cases); i++) {
         struct made_quote q = inverting_quote(call_20);
         q.settings.set_ticks = cases[i].set_ticks;
         q.settings.tick_from_3000 = cases[i].tick;
@@ -491,9 +431,9 @@ static void test_switches(void) {
         {&bid, &bid.settings.check_26, OPC_CHECK_QUOTE_INVERSION},
         {&offer, &offer.settings.check_26, OPC_CHECK_QUOTE_INVERSION},
     };
-    for (size_t i = 0; i < MADE_COUNT(cases); i++) {
+    for (size_t i = 0; i < COUNT(cases); i++) {
         switch_off(&cases[i].q->settings);
-        for (size_t j = 0; j < MADE_COUNT(yes); j++) {
+        for (size_t j = 0; j < COUNT(yes); j++) {
             *cases[i].on = yes[j];
             expect_number(cases[i].q, cases[i].number, "not rejected as expected");
         }
@@ -565,7 +505,7 @@ static void test_random_valid(void) {
         struct made_quote q = random_quote();
         uint64_t first = OPC_ACCEPTED;
         q.settings.check_20 = q.settings.check_21 = q.settings.check_26 = 1;
-        for (size_t j = MADE_COUNT(all); j > 0; j--) {
+        for (size_t j = COUNT(all); j > 0; j--) {
             uint64_t alone = number_alone(q, all[j - 1]);
             first = alone == OPC_ACCEPTED ? first : alone;
         }
@@ -573,7 +513,7 @@ static void test_random_valid(void) {
         seen[first]++;
     }
     expect(seen[OPC_ACCEPTED] > 0, "no quote was accepted");
-    for (size_t j = 0; j < MADE_COUNT(all); j++) {
+    for (size_t j = 0; j < COUNT(all); j++) {
         expect(seen[all[j]] > 0, "a check rejected none of the random quotes");
     }
 }
@@ -637,6 +577,5 @@ int main(void) {
     test_random_valid();
     test_random_bids_as_orders();
     test_random_mirrored();
-    printf("test_quotes: %" PRIu64 " checks hold\n", checks);
-    return 0;
+    return all_hold();
 }

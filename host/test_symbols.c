@@ -2,12 +2,11 @@
  * Holds the symbol entries to exact answers, and each inline wrapper to its raw entry. Exit status
  * 1 and a message on the first failure, one line with the number of checks otherwise.
  */
+#include "chance.h"
+#include "count.h"
+#include "expect.h"
 #include "option_price_check.h"
 
-#include <inttypes.h>
-#include <stdbool.h>
-#include <stdio.h>
-#include <stdlib.h>
 #include <string.h>
 
 #define RANDOM_CASES 100000
@@ -15,11 +14,12 @@
 /* The library's own code is not instrumented, so bytes around a lent buffer show a stray write. */
 #define GUARD 16
 #define WHOLE_BUFFER (GUARD + LARGEST_BUFFER + GUARD)
-#define COUNT(array) (sizeof(array) / sizeof(array)[0])
 
 static const char letters_and_digits[] = "ABCDEFGHIJKLMNOPQRSTUVWXYZ0123456789";
 #define LETTERS 26
 #define LETTERS_AND_DIGITS 36
+
+static const char *const test_name = "test_symbols";
 
 /* What is being tried, for the message of a failure. */
 static struct {
@@ -29,8 +29,6 @@ static struct {
     size_t out_len;
 } now;
 
-static uint64_t checks;
-
 static void print_parts(const struct opc_symbol_parts *p) {
     fprintf(stderr,
             "  root 0x%" PRIx64 ", year %" PRIu64 ", month %" PRIu64 ", day %" PRIu64
@@ -38,8 +36,7 @@ static void print_parts(const struct opc_symbol_parts *p) {
             p->root, p->year, p->month, p->day, p->option_type, p->strike);
 }
 
-static _Noreturn void fail(const char *what) {
-    fprintf(stderr, "test_symbols: %s, at check %" PRIu64 "\n", what, checks);
+static void print_tried(void) {
     if (now.parts != NULL) {
         print_parts(now.parts);
         fprintf(stderr, ", buffer of %zu bytes\n", now.out_len);
@@ -50,26 +47,7 @@ static _Noreturn void fail(const char *what) {
         }
         fprintf(stderr, "\n");
     }
-    exit(1);
 }
-
-static void expect(bool holds, const char *what) {
-    checks++;
-    if (!holds) {
-        fail(what);
-    }
-}
-
-/* A splitmix64 generator from a fixed seed: every run tries the same cases. */
-static uint64_t next_random(void) {
-    static uint64_t state = 20151117;
-    uint64_t z = state += 0x9e3779b97f4a7c15;
-    z = (z ^ z >> 30) * 0xbf58476d1ce4e5b9;
-    z = (z ^ z >> 27) * 0x94d049bb133111eb;
-    return z ^ z >> 31;
-}
-
-static uint64_t below(uint64_t limit) { return next_random() % limit; }
 
 static bool same_parts(const struct opc_symbol_parts *a, const struct opc_symbol_parts *b) {
     return a->root == b->root && a->year == b->year && a->month == b->month && a->day == b->day &&
@@ -359,6 +337,5 @@ int main(void) {
     test_random_valid();
     test_random_damaged_symbols();
     test_random_damaged_parts();
-    printf("test_symbols: %" PRIu64 " checks hold\n", checks);
-    return 0;
+    return all_hold();
 }

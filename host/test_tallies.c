@@ -4,38 +4,24 @@
  * otherwise.
  */
 #define _DEFAULT_SOURCE /* for lent_bytes.h */
+#include "answers.h"
+#include "expect.h"
 #include "lent_bytes.h"
 #include "made_orders.h"
 #include "option_price_check.h"
 
-#include <stdlib.h>
-
 #define RANDOM_CASES 100000
+
+static const char *const test_name = "test_tallies";
 
 /* The tally lent last, for the message of a failure. */
 static struct opc_tally now;
-static uint64_t checks;
 
-static void expect(bool holds, const char *what) {
-    checks++;
-    if (!holds) {
-        fprintf(stderr, "test_tallies: %s, at check %" PRIu64 "\n", what, checks);
-        fprintf(stderr,
-                "  tally before: seen %" PRIu64 ", refused %" PRIu64 ", accepted %" PRIu64
-                ", rejected %" PRIu64 "\n",
-                now.seen, now.refused, now.accepted, now.rejected);
-        exit(1);
-    }
-}
-
-static bool same(const struct opc_answer *a, const struct opc_answer *b) {
-    return a->number == b->number && a->class_ == b->class_ && a->shape == b->shape &&
-           a->pairings == b->pairings;
-}
-
-static bool same_tally(const struct opc_tally *a, const struct opc_tally *b) {
-    return a->seen == b->seen && a->refused == b->refused && a->accepted == b->accepted &&
-           a->rejected == b->rejected;
+static void print_tried(void) {
+    fprintf(stderr,
+            "  tally before: seen %" PRIu64 ", refused %" PRIu64 ", accepted %" PRIu64
+            ", rejected %" PRIu64 "\n",
+            now.seen, now.refused, now.accepted, now.rejected);
 }
 
 static struct opc_answer raw_answer(const struct opc_order *o, const struct opc_settings *s,
@@ -65,8 +51,8 @@ static struct opc_answer answer(const struct made_order *made, struct opc_tally 
     struct opc_answer raw = raw_answer(&order, settings, &made->market, tally, garbage);
     struct opc_answer again = raw_answer(&order, settings, &made->market, &second, ~garbage);
     struct opc_answer wrapped = opc_answer_order_tallied(&order, settings, &made->market, &third);
-    expect(same(&raw, &again), "a lent number is not set");
-    expect(same(&raw, &wrapped), "the wrapper gives another answer");
+    expect(same_answer(&raw, &again), "a lent number is not set");
+    expect(same_answer(&raw, &wrapped), "the wrapper gives another answer");
     expect(same_tally(tally, &second), "the same call leaves another tally");
     expect(same_tally(tally, &third), "the wrapper leaves another tally");
     expect(are_kept(&symbols), "a symbol byte is not kept");
@@ -88,7 +74,7 @@ static void expect_counted(const struct made_order *made, struct opc_tally *tall
         expected.refused++;
     }
     struct opc_answer a = answer(made, tally);
-    expect(same(&a, &untallied), "another answer than the order check's");
+    expect(same_answer(&a, &untallied), "another answer than the order check's");
     expect(same_tally(tally, &expected), "another tally than expected");
 }
 
@@ -97,7 +83,7 @@ static void expect_not_counted(const struct made_order *made, struct opc_tally t
     const struct opc_answer refused = {OPC_BAD_TALLY, 0, 0, 0};
     struct opc_tally after = tally;
     struct opc_answer a = answer(made, &after);
-    expect(same(&a, &refused), "another answer than 12 and zeros");
+    expect(same_answer(&a, &refused), "another answer than 12 and zeros");
     expect(same_tally(&after, &tally), "a tally that was refused is changed");
 }
 
@@ -157,7 +143,7 @@ static const uint64_t numbers[] = {
 /* Each number of the order check, counted as its kind from a fresh tally on. */
 static void test_numbers(void) {
     struct opc_tally tally = OPC_FRESH_TALLY;
-    for (size_t i = 0; i < MADE_COUNT(numbers); i++) {
+    for (size_t i = 0; i < COUNT(numbers); i++) {
         struct made_order m = order_given(numbers[i]);
         struct opc_tally alone = OPC_FRESH_TALLY;
         expect(answer(&m, &alone).number == numbers[i], "not the number that was meant");
@@ -177,8 +163,8 @@ static void test_good_tallies(void) {
         {999999, 999999, 0, 0}, {999999, 0, 999999, 0},
         {999999, 0, 0, 999999}, {999999, 333333, 333333, 333333},
     };
-    for (size_t i = 0; i < MADE_COUNT(good); i++) {
-        for (size_t j = 0; j < MADE_COUNT(numbers); j++) {
+    for (size_t i = 0; i < COUNT(good); i++) {
+        for (size_t j = 0; j < COUNT(numbers); j++) {
             struct made_order m = order_given(numbers[j]);
             struct opc_tally tally = good[i];
             expect_counted(&m, &tally);
@@ -186,55 +172,59 @@ static void test_good_tallies(void) {
     }
 }
 
+#define HALF (1ULL << 63)
+#define THIRD (UINT64_MAX / 3)
+
+/* Tallies on which nothing is counted. */
+static const struct opc_tally bad[] = {
+    /* The last check is counted. */
+    {1000000, 1000000, 0, 0},
+    {1000000, 0, 1000000, 0},
+    {1000000, 0, 0, 1000000},
+    {1000001, 1, 1000000, 0},
+    {1ULL << 32, 0, 1ULL << 32, 0},
+    {UINT64_MAX, UINT64_MAX, 0, 0},
+    {UINT64_MAX, THIRD, THIRD, THIRD},
+    /* One more or one less in one of the four. */
+    {7, 1, 2, 3},
+    {5, 1, 2, 3},
+    {6, 2, 2, 3},
+    {6, 0, 2, 3},
+    {6, 1, 3, 3},
+    {6, 1, 1, 3},
+    {6, 1, 2, 4},
+    {6, 1, 2, 2},
+    {1, 0, 0, 0},
+    {0, 1, 0, 0},
+    {0, 0, 1, 0},
+    {0, 0, 0, 1},
+    {999999, 1000000, 0, 0},
+    {1000000, 999999, 0, 0},
+    {1000000, 0, 0, 0},
+    {UINT64_MAX, 0, 0, 0},
+    {0, UINT64_MAX, UINT64_MAX, UINT64_MAX},
+    /* The sum is right in 64 bits only, whichever two are added first. */
+    {0, UINT64_MAX, 1, 0},
+    {0, UINT64_MAX, 0, 1},
+    {0, 0, UINT64_MAX, 1},
+    {0, 1, UINT64_MAX, 0},
+    {5, HALF, HALF, 5},
+    {5, HALF, 5, HALF},
+    {5, 5, HALF, HALF},
+    {4, UINT64_MAX, 2, 3},
+    {999999, UINT64_MAX, 1, 999999},
+    /* Three times two THIRDs: twice over, and 1. */
+    {1, 2 * THIRD + 1, 2 * THIRD + 1, 2 * THIRD + 1},
+    /* The sum is right in 32 bits only. */
+    {6, 1ULL << 32 | 1, 2, 3},
+    {6, 1, 1ULL << 32 | 2, 3},
+    {6, 1, 2, 1ULL << 32 | 3},
+};
+
 /* 12 comes first, whatever the order. */
 static void test_bad_tallies(void) {
-    static const uint64_t half = 1ULL << 63, third = UINT64_MAX / 3;
-    const struct opc_tally bad[] = {
-        /* The last check is counted. */
-        {1000000, 1000000, 0, 0},
-        {1000000, 0, 1000000, 0},
-        {1000000, 0, 0, 1000000},
-        {1000001, 1, 1000000, 0},
-        {1ULL << 32, 0, 1ULL << 32, 0},
-        {UINT64_MAX, UINT64_MAX, 0, 0},
-        {UINT64_MAX, third, third, third},
-        /* One more or one less in one of the four. */
-        {7, 1, 2, 3},
-        {5, 1, 2, 3},
-        {6, 2, 2, 3},
-        {6, 0, 2, 3},
-        {6, 1, 3, 3},
-        {6, 1, 1, 3},
-        {6, 1, 2, 4},
-        {6, 1, 2, 2},
-        {1, 0, 0, 0},
-        {0, 1, 0, 0},
-        {0, 0, 1, 0},
-        {0, 0, 0, 1},
-        {999999, 1000000, 0, 0},
-        {1000000, 999999, 0, 0},
-        {1000000, 0, 0, 0},
-        {UINT64_MAX, 0, 0, 0},
-        {0, UINT64_MAX, UINT64_MAX, UINT64_MAX},
-        /* The sum is right in 64 bits only, whichever two are added first. */
-        {0, UINT64_MAX, 1, 0},
-        {0, UINT64_MAX, 0, 1},
-        {0, 0, UINT64_MAX, 1},
-        {0, 1, UINT64_MAX, 0},
-        {5, half, half, 5},
-        {5, half, 5, half},
-        {5, 5, half, half},
-        {4, UINT64_MAX, 2, 3},
-        {999999, UINT64_MAX, 1, 999999},
-        /* Three times two thirds: twice over, and 1. */
-        {1, 2 * third + 1, 2 * third + 1, 2 * third + 1},
-        /* The sum is right in 32 bits only. */
-        {6, 1ULL << 32 | 1, 2, 3},
-        {6, 1, 1ULL << 32 | 2, 3},
-        {6, 1, 2, 1ULL << 32 | 3},
-    };
-    for (size_t i = 0; i < MADE_COUNT(bad); i++) {
-        for (size_t j = 0; j < MADE_COUNT(numbers); j++) {
+    for (size_t i = 0; i < COUNT(bad); i++) {
+        for (size_t j = 0; j < COUNT(numbers); j++) {
             struct made_order m = order_given(numbers[j]);
             expect_not_counted(&m, bad[i]);
         }
@@ -287,7 +277,7 @@ static void test_random_tallies(void) {
             expect_counted(&m, &t);
         } else {
             uint64_t change = between(1, UINT64_MAX - 1) >> below(63);
-            *fields[below(MADE_COUNT(fields))] += change == 0 ? 1 : change;
+            *fields[below(COUNT(fields))] += change == 0 ? 1 : change;
             expect_not_counted(&m, t);
         }
     }
@@ -301,14 +291,14 @@ static void test_whole_session(void) {
     const struct opc_tally whole = {OPC_MOST_TALLIED, OPC_MOST_TALLIED / 2, OPC_MOST_TALLIED / 4,
                                     OPC_MOST_TALLIED / 4};
     for (size_t i = 0; i < OPC_MOST_TALLIED; i++) {
-        const struct made_order *m = &made[i % MADE_COUNT(made)];
+        const struct made_order *m = &made[i % COUNT(made)];
         struct opc_order order = lend(m);
         now = tally;
         struct opc_answer a = opc_answer_order_tallied(&order, &m->settings, &m->market, &tally);
         expect(a.number != OPC_BAD_TALLY && tally.seen == i + 1, "a check that is not counted");
     }
     expect(same_tally(&tally, &whole), "the tally of a whole session");
-    for (size_t i = 0; i < MADE_COUNT(made); i++) {
+    for (size_t i = 0; i < COUNT(made); i++) {
         expect_not_counted(&made[i], tally);
     }
 }
@@ -321,6 +311,5 @@ int main(void) {
     test_random_session();
     test_random_tallies();
     test_whole_session();
-    printf("test_tallies: %" PRIu64 " checks hold\n", checks);
-    return 0;
+    return all_hold();
 }

@@ -10,7 +10,8 @@
  *
  * What an entry asks of its caller: a pointer to bytes is valid for the length beside it, and is
  * NULL only with length 0; a pointer to a lent number is valid and never NULL; the lent numbers of
- * one call are distinct and share no memory with its bytes.
+ * one call are distinct and share no memory with its bytes. So too an inline function, whose
+ * pointers to structs are valid and never NULL.
  */
 #ifndef OPTION_PRICE_CHECK_H
 #define OPTION_PRICE_CHECK_H
@@ -220,6 +221,9 @@ struct opc_settings {
  * The market in the class of options, and in the series of a quote or of an order of one leg. Each
  * price is in mills, 1 to 1000000000, and 0 where it is missing. A flag: 0 is no, any other value
  * yes.
+ *
+ * The NBBO, which is the NBB and the NBO, is unavailable where both are missing, locked where they
+ * are equal and present, crossed where both are present and the NBB is above the NBO.
  */
 struct opc_market {
     uint64_t phase;          /* as in enum opc_phase; no other value */
@@ -278,11 +282,23 @@ struct opc_answer {
  *     OPC_CHECK_DEBIT_CREDIT   two or more legs, a debit at a negative price (limit orders only),
  *                              or a credit at a positive price;
  *     OPC_CHECK_MAXIMUM_VALUE  a vertical, a true butterfly or a box, at a price whose size is
- *                              above its maximum value and what is allowed over that;
- *     OPC_CHECK_TICK_DISTANCE  one leg, a limit order without stop or manual flag, bought more than
- *                              the acceptable distance above its reference, or sold more below;
+ *                              above its maximum value and the allowance together;
+ *     OPC_CHECK_TICK_DISTANCE  one leg, a limit order without stop or manual flag, bought further
+ *                              above its reference than the distance, or sold further under it;
  *   otherwise
  *     OPC_ACCEPTED.
+ *
+ * Check 24: the maximum value M is the strike difference, or of a true butterfly the middle strike
+ * less the lowest. The allowance is M times the percentage, over 10000, rounded down, then raised
+ * to the preset minimum and lowered to the preset maximum.
+ *
+ * Check 25: the reference of a buy before the opening is, where the series is open elsewhere, the
+ * NBO, but the previous close if the NBBO is locked, crossed or unavailable, or if the NBO alone is
+ * missing and the close is at least the NBB; where it is not open elsewhere, the close. When open
+ * it is the NBO, or the own offer if the NBBO is locked, crossed or unavailable; in a halt the NBO.
+ * A sell mirrors this, with the NBB, the own bid, and a close that is at most the NBO. Where the
+ * reference is missing there is no check. The distance is the acceptable tick distance set for the
+ * reference's band, times the tick at the reference.
  *
  * *class_, *shape and *pairings are set to the order's class, shape and number of pairings where it
  * is accepted or rejected by a check, and to 0 where it is refused (1 to 10). The sequence of the
@@ -331,7 +347,7 @@ static inline struct opc_answer opc_answer_order(const struct opc_order *order,
  */
 struct opc_tally {
     uint64_t seen;     /* at most OPC_MOST_TALLIED, and always the sum of the other three */
-    uint64_t refused;  /* given any other number; a check given 12 is not seen at all */
+    uint64_t refused;  /* given 1 to 10; a check given 12 is not seen at all */
     uint64_t accepted; /* given 0 */
     uint64_t rejected; /* given 20 to 26 */
 };
@@ -351,7 +367,7 @@ struct opc_tally {
  *
  * After OPC_BAD_TALLY, *class_, *shape and *pairings are 0, and the tally is as it was. Otherwise
  * they are as opc_check_order sets them; *seen is one more than it was, and so is *accepted (after
- * 0), *rejected (after 20 to 26) or *refused (after any other number).
+ * 0), *rejected (after 20 to 26) or *refused (after 1 to 10).
  */
 uint64_t opc_check_order_tallied(
     const uint8_t *symbols, size_t symbols_len, const uint8_t *counts, size_t counts_len,
@@ -432,10 +448,10 @@ struct opc_quote_answer {
  *
  * A bid inverts the market if it is at the NBO or above; where the own offer equals the NBO, only
  * if it is above it by more than the set ticks, times the tick at that price. Where the NBBO is
- * locked, crossed or missing on both sides, the own offer takes the place of the NBO, with the set
- * ticks. An offer mirrors this, against the NBB and the own bid. A side is not tested where the
- * price that it is held against is missing, and neither side in a halt, or before the opening
- * unless the series is open elsewhere.
+ * locked, crossed or unavailable, the own offer takes the place of the NBO, with the set ticks. An
+ * offer mirrors this, against the NBB and the own bid. A side is not tested where the price that it
+ * is held against is missing, and neither side in a halt, or before the opening unless the series
+ * is open elsewhere.
  *
  * *cancel is set to 1 where a check (20, 21 or 26) rejects a quote with one resting, else to 0.
  */
