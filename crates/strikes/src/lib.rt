@@ -1,5 +1,5 @@
 // Strikes by their differences, and M, the most that the shape of unit legs can be worth.
-// A sum of two strikes could pass 64 bits: so every function takes any strikes.
+// A sum of two strikes could pass 64 bits, so differences are compared in its place: any strikes will do.
 use choice::pick;
 use rules::Legs;
 ghost use mathlib.Core.Path.{_≡_};

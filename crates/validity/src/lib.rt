@@ -4,16 +4,14 @@ use choice::pick;
 use limits::market_holds;
 use limits::settings_hold;
 use reading::legs_of;
+use reading::no_leg;
 use refusals::is_bad_price;
 use refusals::some_bad_count;
 use refusals::some_other_root;
 use refusals::some_series_twice;
-use rules::Leg;
 use rules::Legs;
 use rules::Market;
-use rules::Mills;
 use rules::Order;
-use rules::Series;
 use rules::Settings;
 ghost use mathlib.Core.Path.{_≡_};
 ghost use mathlib.Core.List.{[], _∷_};
@@ -47,16 +45,7 @@ fn first_refusal(
 fn no_legs() -> Validated
     ensures { λ r. ⌜ r .number ≡ 3 ⌝ }
 {
-    let none = Leg {
-        root: 0,
-        series: Series {
-            call: false,
-            expiry: 0,
-            strike: Mills(0),
-        },
-        bought: false,
-        size: 0,
-    };
+    let none = no_leg();
     Validated {
         number: 3,
         legs: Legs {
