@@ -12,7 +12,7 @@ use symbol::reader::is_symbol;
 use symbol::reader::parts_of;
 ghost use mathlib.Core.Path.{_≡_};
 ghost use Prim.Native.Nat.{_≤_, _<_};
-ghost use Rattle.rules.specs.Order.{seriesOf, noLeg};
+ghost use Rattle.rules.specs.Order.{seriesOf};
 ghost use Rattle.reading.specs.Legs.{IsLegRead, AreLegsRead};
 
 // The bounds are those of the parts of any 21 bytes.
@@ -24,22 +24,6 @@ pub fn series_of(p: SymbolParts) -> Series
         call: p.right == 67,
         expiry: p.year * 10000 + p.month * 100 + p.day,
         strike: Mills(p.strike.0),
-    }
-}
-
-// What stands where no leg is written.
-pub fn no_leg() -> Leg
-    ensures { λ r. ⌜ r ≡ noLeg ⌝ }
-{
-    Leg {
-        root: 0,
-        series: Series {
-            call: false,
-            expiry: 0,
-            strike: Mills(0),
-        },
-        bought: false,
-        size: 0,
     }
 }
 
@@ -80,7 +64,16 @@ pub fn legs_of(o: Order) -> LegsRead
     ensures { λ r. ⌜ AreLegsRead o r ⌝ }
 {
     let n = o.len;
-    let none = no_leg();
+    let none = Leg {
+        root: 0,
+        series: Series {
+            call: false,
+            expiry: 0,
+            strike: Mills(0),
+        },
+        bought: false,
+        size: 0,
+    };
     let mut legs = [none; 16];
     let mut bad = false;
     let mut i = 0;

@@ -4,14 +4,16 @@ use choice::pick;
 use limits::market_holds;
 use limits::settings_hold;
 use reading::legs_of;
-use reading::no_leg;
 use refusals::is_bad_price;
 use refusals::some_bad_count;
 use refusals::some_other_root;
 use refusals::some_series_twice;
+use rules::Leg;
 use rules::Legs;
 use rules::Market;
+use rules::Mills;
 use rules::Order;
+use rules::Series;
 use rules::Settings;
 ghost use mathlib.Core.Path.{_≡_};
 ghost use mathlib.Core.List.{[], _∷_};
@@ -45,7 +47,16 @@ fn first_refusal(
 fn no_legs() -> Validated
     ensures { λ r. ⌜ r .number ≡ 3 ⌝ }
 {
-    let none = no_leg();
+    let none = Leg {
+        root: 0,
+        series: Series {
+            call: false,
+            expiry: 0,
+            strike: Mills(0),
+        },
+        bought: false,
+        size: 0,
+    };
     Validated {
         number: 3,
         legs: Legs {

@@ -35,7 +35,7 @@ unfolding legsOf
 loop-holds c = (refl, refl, refl, omega arith)
 
 element-copy-out-raw : tie.Need-element-copy-out-raw Inv-loop μ-loop
-element-copy-out-raw c = omega (arith, full (c .before .before .before), c .before .before .before .pre)
+element-copy-out-raw c = omega (arith, full (c .before .before), c .before .before .pre)
 
 array-set-from-legs : tie.Need-array-set-from-legs Inv-loop μ-loop
 array-set-from-legs c = omega (arith, c .before .before .before .before .loop .inv .2)
@@ -43,7 +43,7 @@ array-set-from-legs c = omega (arith, c .before .before .before .before .loop .i
 loop-again : tie.Need-loop-again Inv-loop μ-loop
 unfolding legsOf
 loop-again c =
-    let s = c .before .before .before .before .before .before .before .before in
+    let s = c .before .before .before .before .before .before .before in
     let l = c .before .before .before .before .before .before .loop in
     let n = s .args .t1 .len in
     let legs = s .args .t1 .legs in
@@ -60,7 +60,7 @@ loop-again c =
 
 returns : tie.Need-returns Inv-loop μ-loop
 returns c =
-    let s = c .before .before .before in
+    let s = c .before .before in
     let l = c .before .loop in
     let n = s .args .t1 .len in
     let e : l .i ≡ n = omega arith in
@@ -76,7 +76,6 @@ legs-of-spec =
     (tie.spec
     Inv-loop
     μ-loop
-    (λ c κs. tt)
     loop-holds
     (λ c. search needs)
     element-copy-out-raw
