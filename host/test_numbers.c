@@ -1,0 +1,177 @@
+/*
+ * Holds docs/HOST.md to the library: its table "The numbers of each entry" is read, and each entry
+ * must give every number that it says and no other, in calls made by chance. Every class, shape and
+ * cancel flag is given too. Run at the top of the repository. Exit status 1 and a message on the
+ * first failure, one line with the number of checks otherwise.
+ */
+#include "expect.h"
+#include "made_orders.h"
+#include "made_quotes.h"
+#include "option_price_check.h"
+
+#define RANDOM_CASES 100000
+
+static const char *const test_name = "test_numbers";
+
+/* The entry tried last, for the message of a failure. */
+static const char *tried = "";
+
+static void print_tried(void) { fprintf(stderr, "  entry: %s\n", tried); }
+
+/* A set of numbers below 64: bit n is number n. Larger ones are all bit 63, which none has. */
+static uint64_t only(uint64_t number) { return 1ULL << (number < 63 ? number : 63); }
+
+/* The numbers that a field of the table names, as in "0, 3 to 5 |". */
+static uint64_t numbers_in(const char *field) {
+    uint64_t set = 0;
+    while (*field >= '0' && *field <= '9') {
+        char *end;
+        unsigned long first = strtoul(field, &end, 10);
+        unsigned long last = strncmp(end, " to ", 4) == 0 ? strtoul(end + 4, &end, 10) : first;
+        for (unsigned long number = first; number <= last; number++) {
+            set |= only(number);
+        }
+        field = strncmp(end, ", ", 2) == 0 ? end + 2 : end;
+    }
+    expect(strncmp(field, " |", 2) == 0, "a field of docs/HOST.md cannot be read");
+    return set;
+}
+
+/* The numbers that docs/HOST.md says of an entry. */
+static uint64_t documented(const char *entry) {
+    char line[256], row[64];
+    uint64_t set = 0;
+    bool in_table = false;
+    FILE *text = fopen("docs/HOST.md", "r");
+    expect(text != NULL, "docs/HOST.md cannot be opened");
+    int len = snprintf(row, sizeof row, "| `%s` | ", entry);
+    while (fgets(line, sizeof line, text) != NULL) {
+        in_table |= strcmp(line, "| entry | numbers |\n") == 0;
+        if (in_table && strncmp(line, row, (size_t)len) == 0) {
+            set |= numbers_in(line + len);
+        }
+    }
+    fclose(text);
+    return set;
+}
+
+/* A valid symbol, a damaged one, or one of another length. */
+static uint64_t number_read(void) {
+    struct made_quote q = random_quote();
+    struct opc_symbol_parts parts;
+    if (one_in(2)) {
+        damage_quote(&q, one_in(2) ? OPC_NOT_21_BYTES : OPC_BAD_SYMBOL);
+    }
+    return opc_read_symbol_parts(q.symbol, q.symbol_len, &parts);
+}
+
+static uint64_t number_written(void) {
+    struct opc_symbol_parts parts = {.root = 0x412020202020,
+                                     .year = between(1999, 2100),
+                                     .month = between(0, 13),
+                                     .day = between(0, 32),
+                                     .option_type = 'P',
+                                     .strike = below(100000000)};
+    uint8_t out[OPC_SYMBOL_LENGTH + 1];
+    uint64_t number;
+    opc_write_symbol_parts(&parts, out, between(OPC_SYMBOL_LENGTH - 1, sizeof out), &number);
+    return number;
+}
+
+/* A valid order, or a damaged one of three legs or more. */
+static struct made_order some_order(void) {
+    struct made_order m = random_order(one_in(2) ? between(1, 2) : between(3, OPC_MOST_LEGS));
+    if (legs_of(&m) > 2 && one_in(2)) {
+        damage(&m, refusals[below(REFUSALS)]);
+    }
+    return m;
+}
+
+static uint64_t number_of_order(void) {
+    struct made_order m = some_order();
+    struct opc_order order = lend(&m);
+    return opc_answer_order(&order, &m.settings, &m.market).number;
+}
+
+static uint64_t number_tallied(void) {
+    struct made_order m = some_order();
+    struct opc_order order = lend(&m);
+    struct opc_tally tally = {.seen = below(3), .accepted = below(3)};
+    return opc_answer_order_tallied(&order, &m.settings, &m.market, &tally).number;
+}
+
+static uint64_t number_of_quote(void) {
+    struct made_quote q = random_quote();
+    if (one_in(2)) {
+        damage_quote(&q, quote_refusals[below(QUOTE_REFUSALS)]);
+    }
+    struct opc_quote quote = lend_quote(&q);
+    return opc_answer_quote(&quote, &q.settings, &q.market).number;
+}
+
+static void test_numbers(void) {
+    static const struct {
+        const char *name;
+        uint64_t (*number)(void);
+    } entries[] = {
+        {"opc_read_symbol", number_read},     {"opc_write_symbol", number_written},
+        {"opc_check_order", number_of_order}, {"opc_check_order_tallied", number_tallied},
+        {"opc_check_quote", number_of_quote},
+    };
+    uint64_t all = 0;
+    for (size_t i = 0; i < COUNT(entries); i++) {
+        tried = entries[i].name;
+        uint64_t said = documented(tried), given = 0;
+        for (size_t n = 0; n < RANDOM_CASES; n++) {
+            uint64_t number = entries[i].number();
+            expect((said & only(number)) != 0, "a number that docs/HOST.md does not say");
+            given |= only(number);
+        }
+        expect(given == said, "a number that docs/HOST.md says, and no call was given");
+        all |= given;
+    }
+    tried = "all of them";
+    expect(all == numbers_in("0 to 12, 20 to 26 |"), "a number that no entry gives");
+}
+
+/* One order of each shape, T2, T3, T4 and T6 of document 01 among them, and one of each class. */
+static void test_shapes_and_classes(void) {
+    uint64_t shapes = 0, classes = 0;
+    tried = "opc_check_order";
+    for (uint64_t i = 0; i < 6; i++) {
+        struct made_order m = no_legs();
+        int64_t side = i == 5 ? -1 : 1;
+        add_leg(&m, 270115, 'C', 20000, side);
+        add_leg(&m, 270115, i == 0 ? 'P' : 'C', 30000, i == 2 || i == 3 ? -2 : -side);
+        if (i == 2 || i == 3) {
+            add_leg(&m, 270115, 'C', i == 2 ? 40000 : 45000, 1);
+        } else if (i == 4) {
+            add_leg(&m, 270115, 'P', 20000, -1);
+            add_leg(&m, 270115, 'P', 30000, 1);
+        }
+        struct opc_order order = lend(&m);
+        struct opc_answer a = opc_answer_order(&order, &m.settings, &m.market);
+        shapes |= only(a.shape);
+        classes |= only(a.class_);
+    }
+    expect(shapes == numbers_in("0 to 4 |"), "a shape that no order was given");
+    expect(classes == numbers_in("0 to 2 |"), "a class that no order was given");
+}
+
+static void test_cancel_flag(void) {
+    uint64_t flags = 0;
+    tried = "opc_check_quote";
+    for (size_t i = 0; i < RANDOM_CASES; i++) {
+        struct made_quote q = random_quote();
+        struct opc_quote quote = lend_quote(&q);
+        flags |= only(opc_answer_quote(&quote, &q.settings, &q.market).cancel);
+    }
+    expect(flags == numbers_in("0 to 1 |"), "a cancel flag that no quote was given");
+}
+
+int main(void) {
+    test_numbers();
+    test_shapes_and_classes();
+    test_cancel_flag();
+    return all_hold();
+}
