@@ -1,10 +1,10 @@
 // Check 26, quote inversion.
-use checks::reference::is_unusable;
-use checks::reference::tick_at;
 use choice::both;
 use choice::choose;
 use choice::either;
 use quantity::distance;
+use reference::is_unusable;
+use reference::tick_at;
 use rules::Market;
 use rules::Mills;
 use rules::Settings;

@@ -1,67 +1,19 @@
--- Answers, field by field; the definitions of the order check, case by case.
+-- The definitions of the order check, case by case.
 use mathlib.Core.Path.{_≡_, refl, sym, ap, _∙_}
-use mathlib.Core.List.{List, [], _∷_, map}
+use mathlib.Core.List.{List}
 use mathlib.Core.Bool.{true, false}
-use Prim.Native.Nat.{ℕ, zero, suc, _/_, _≤_, _<_}
-use native.Mathlib.Nat.{div-le-self, le-trans}
-use native.Mathlib.Omega.{arith}
-use lib.ListN.{length, take, getD}
-use Rattle.rules.specs.declared.Leg.{Leg}
-use Rattle.rules.specs.declared.Legs.{Legs}
+use Prim.Native.Nat.{ℕ, zero, suc, _/_, _<_}
+use lib.ListN.{length}
 use Rattle.rules.specs.declared.Order.{Order}
 use Rattle.rules.specs.declared.Terms.{Terms}
 use Rattle.rules.specs.declared.Settings.{Settings}
 use Rattle.rules.specs.declared.Market.{Market}
 use Rattle.rules.specs.declared.OrderAnswer.{OrderAnswer}
-use Rattle.rules.specs.Lists.{All}
-use Rattle.rules.specs.Order.{isYes, rawLegs, recordLegs, legsOf, legsIn, commonDivisor, divided, units}
-use Rattle.rules.specs.Pairing.{byStrike, bothWalks}
-use Rattle.rules.specs.Class.{classOf, shapeOf}
-use Rattle.rules.specs.Numbers.{refusal, rejection, judged, refused, outcome, checkLegs, checkOrder, areWhole, checkSlices}
+use Rattle.rules.specs.Order.{rawLegs, recordLegs, legsOf}
+use Rattle.rules.specs.Pairing.{byStrike}
+use Rattle.rules.specs.Numbers.{refusal, judged, refused, outcome, checkLegs, checkOrder, areWhole, checkSlices}
 use Rattle.order.specs.Slices.{Recorded}
-use Rattle.classify.specs.Legs.{IsValidLeg}
-use Rattle.complex_checks.specs.Complex.{LegWithin}
 use Rattle.validity.proofs.Laws.{above, wrong-length}
-
-abbrev answerOf : ℕ → ℕ → ℕ → ℕ → OrderAnswer
-answerOf number class shape pairings = record { number = number; class = class; shape = shape; pairings = pairings }
-
-pub answer : {n m c d s t p q : ℕ} → n ≡ m → c ≡ d → s ≡ t → p ≡ q → answerOf n c s p ≡ answerOf m d t q
-answer a b c d = λ i. answerOf (a i) (b i) (c i) (d i)
-
--- ---- legs of a valid order, with their unit counts
-
-within-divided : (g : ℕ) (ls : List Leg) → All IsValidLeg ls → All LegWithin (map (divided g) ls)
-within-divided g [] h = tt
-within-divided g (x ∷ ls) h =
-    (record { size = le-trans (div-le-self (x .size) g) (h .0 .most); strike = h .0 .series .strike }, within-divided g ls (h .1))
-
-pub units-within : (ls : List Leg) → All IsValidLeg ls → All LegWithin (units ls)
-unfolding units
-units-within ls h = within-divided (commonDivisor ls) ls h
-
--- the legs of a record of one leg
-pub one-leg : (l : Legs) (d : Leg) → l .len ≡ 1 → 1 ≤ length (l .legs) → legsIn l ≡ getD (l .legs) 0 d ∷ []
-one-leg l d h k = ap (λ (n : ℕ). take n (l .legs)) h ∙ go (l .legs) k
-  where
-    go : (xs : List Leg) → 1 ≤ length xs → take 1 xs ≡ getD xs 0 d ∷ []
-    go [] e = absurd (omega arith)
-    go (x ∷ xs) e = refl
-
-pub first-size : {ls : List Leg} {x : Leg} → ls ≡ x ∷ [] → All IsValidLeg ls → 0 < x .size
-first-size {x = x} e h = let k : All IsValidLeg (x ∷ []) = rw e at h in k .0 .least
-
--- ---- the definitions' cases
-
-pub judged-is : (st : Settings) (m : Market) (t : Terms) (ls : List Leg)
-    → judged st m t ls
-    ≡ answerOf
-    (rejection st m t (units ls) (classOf (units ls) (bothWalks (isYes (st .european)) ls)))
-    (classOf (units ls) (bothWalks (isYes (st .european)) ls))
-    (shapeOf (units ls))
-    (length (bothWalks (isYes (st .european)) ls .pairs))
-unfolding judged
-judged-is st m t ls = refl
 
 outcome-none : (n : ℕ) (a : OrderAnswer) → n ≡ 0 → outcome n a ≡ a
 unfolding outcome

@@ -1,5 +1,5 @@
 // The order check.
-use crate::judge::judge;
+use judge::judge;
 use order::slices::are_whole;
 use order::slices::order_of;
 use rules::Market;
@@ -10,8 +10,6 @@ use rules::Terms;
 use validity::validate;
 ghost use mathlib.Core.Path.{_≡_};
 ghost use Rattle.rules.specs.Numbers.{refused, checkOrder, checkSlices};
-
-pub mod judge;
 
 // A refusal has no class, shape or pairings.
 pub fn refused(number: u64) -> OrderAnswer

@@ -1,10 +1,10 @@
 // The quote check.
-use crate::refusal::read_quote;
-use checks::paid::call_test;
-use checks::paid::put_test;
 use choice::both;
 use choice::pick;
 use inversion::quote_inversion;
+use paid::call_test;
+use paid::put_test;
+use quote_validity::read_quote;
 use rules::Market;
 use rules::Mills;
 use rules::QuoteAnswer;
@@ -14,8 +14,6 @@ ghost use mathlib.Core.Path.{_≡_};
 ghost use mathlib.Core.Bool.{true};
 ghost use Rattle.rules.specs.Market.{settingsHold, marketHolds};
 ghost use Rattle.rules.specs.Quote.{quoteRejection, answeredQuote, checkQuote};
-
-pub mod refusal;
 
 // The number of the first check that applies, 0 if none. 20 and 21 test the bid.
 pub fn rejection(st: Settings, m: Market, s: Series, bid: Mills, offer: Mills) -> u64

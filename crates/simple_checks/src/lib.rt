@@ -1,12 +1,12 @@
 // The checks of a simple order: 20, 21 and 25, and the first of them that applies.
-use checks::paid::call_test;
-use checks::paid::put_test;
-use checks::reference::acceptable_ticks;
-use checks::reference::reference;
-use checks::reference::tick_at;
 use choice::both;
 use choice::negated;
+use paid::call_test;
+use paid::put_test;
 use quantity::distance;
+use reference::acceptable_ticks;
+use reference::reference;
+use reference::tick_at;
 use rules::Leg;
 use rules::Market;
 use rules::Mills;

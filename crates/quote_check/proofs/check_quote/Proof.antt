@@ -2,7 +2,8 @@
 use mathlib.Core.Path.{sym, ap, _∙_}
 use Rattle.rules.specs.declared.Series.{Series}
 use Rattle.rules.specs.Quote.{quoteRejection, answeredQuote}
-use Rattle.quote_check.proofs.Laws.{not-refused, quote-refused, quote-valid}
+use Rattle.quote_validity.proofs.Laws.{not-refused}
+use Rattle.quote_check.proofs.Laws.{quote-refused, quote-valid}
 use Rattle.quote_check.proofs.check_quote.Statement.{statement}
 use Rattle.quote_check.proofs.check_quote.Tie as tie
 

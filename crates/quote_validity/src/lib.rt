@@ -1,0 +1,74 @@
+// The refusals of a quote: the first number that applies, and the series as read.
+use choice::either;
+use choice::negated;
+use choice::pick;
+use choice::within;
+use limits::market_holds;
+use limits::settings_hold;
+use reading::series_of;
+use rules::Market;
+use rules::Mills;
+use rules::Series;
+use rules::Settings;
+use symbol::reader::is_symbol;
+use symbol::reader::parts_of;
+ghost use mathlib.Core.Path.{_≡_};
+ghost use mathlib.Core.List.{[], _∷_};
+ghost use Rattle.rules.specs.Quote.{isBadQuote};
+ghost use Rattle.rules.specs.Numbers.{firstOf};
+ghost use Rattle.quote_validity.specs.Quotes.{IsQuoteRead};
+
+// The series counts only where the number is 0.
+pub struct QuoteRead {
+    pub number: u64,
+    pub series: Series,
+}
+
+fn is_bad_quote(bid: Mills, offer: Mills) -> bool
+    ensures { λ r. ⌜ r ≡ isBadQuote bid offer ⌝ }
+{
+    either(
+        either(
+            negated(within(1, 1000000000, bid.0)),
+            negated(within(1, 1000000000, offer.0)),
+        ),
+        negated(bid.0 < offer.0),
+    )
+}
+
+// The first of the tests of refusals 4, 9, 10 and 11 that applies, 0 if none.
+fn first_refusal(symbol: bool, settings: bool, market: bool, quote: bool) -> u64
+    ensures { λ r. ⌜ r ≡ firstOf ((symbol, 4) ∷ (settings, 9) ∷ (market, 10) ∷ (quote, 11) ∷ []) ⌝ }
+{
+    let others = pick(settings, 9, pick(market, 10, pick(quote, 11, 0)));
+    pick(symbol, 4, others)
+}
+
+// The symbol is read once.
+pub fn read_quote(symbol: &[u8], bid: Mills, offer: Mills, st: Settings, m: Market) -> QuoteRead
+    ensures { λ r. ⌜ IsQuoteRead st m (now (symbol .entry)) bid offer r ⌝ }
+{
+    if symbol.len() != 21 {
+        return QuoteRead {
+            number: 1,
+            series: Series {
+                call: false,
+                expiry: 0,
+                strike: Mills(0),
+            },
+        };
+    }
+    let p = parts_of(symbol);
+    let good = is_symbol(symbol, p);
+    let series = series_of(p);
+    let number = first_refusal(
+        negated(good),
+        negated(settings_hold(st)),
+        negated(market_holds(m)),
+        is_bad_quote(bid, offer),
+    );
+    QuoteRead {
+        number: number,
+        series: series,
+    }
+}
