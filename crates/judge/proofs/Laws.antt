@@ -17,7 +17,7 @@ use Rattle.rules.specs.Pairing.{bothWalks}
 use Rattle.rules.specs.Class.{classOf, shapeOf}
 use Rattle.rules.specs.Numbers.{rejection, judged}
 use Rattle.classify.specs.Legs.{IsValidLeg}
-use Rattle.complex_checks.specs.Complex.{LegWithin}
+use Rattle.buy_buy.specs.Complex.{LegWithin}
 
 abbrev answerOf : ℕ → ℕ → ℕ → ℕ → OrderAnswer
 answerOf number class shape pairings = record { number = number; class = class; shape = shape; pairings = pairings }

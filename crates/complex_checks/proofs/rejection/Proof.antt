@@ -5,7 +5,8 @@ use native.Mathlib.Omega.{arith}
 use lib.ListN.{length, length-map}
 use Rattle.rules.specs.Order.{isYes, legsIn, isComplex}
 use Rattle.rules.proofs.Numbering.{tested}
-use Rattle.complex_checks.proofs.Laws.{complex-take, rejects-sum, rejects-sign, rejects-maximum, accepts}
+use Rattle.buy_buy.proofs.Laws.{complex-take}
+use Rattle.complex_checks.proofs.Laws.{rejects-sum, rejects-sign, rejects-maximum, accepts}
 use borrow.Author.Needs.{needs}
 use Rattle.complex_checks.proofs.rejection.Statement.{statement}
 use Rattle.complex_checks.proofs.rejection.Tie as tie

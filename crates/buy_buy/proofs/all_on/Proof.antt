@@ -9,8 +9,8 @@ use Rattle.rules.specs.Lists.{sameBool, all}
 use Rattle.rules.specs.Order.{noLeg}
 use Rattle.loops.proofs.Finding.{all-turn, all-end}
 use Rattle.rules.proofs.Tests.{beq-same}
-use Rattle.complex_checks.proofs.all_on.Statement.{statement}
-use Rattle.complex_checks.proofs.all_on.Tie as tie
+use Rattle.buy_buy.proofs.all_on.Statement.{statement}
+use Rattle.buy_buy.proofs.all_on.Tie as tie
 
 abbrev Inv-loop : tie.InvT-loop
 Inv-loop side us n r₀ i₀ r i = r && all (λ u. sameBool side (u .bought)) (drop i (take n (us .legs))) ≡ all (λ u. sameBool side (u .bought)) (take n (us .legs))

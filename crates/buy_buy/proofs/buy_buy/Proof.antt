@@ -6,10 +6,10 @@ use lib.ListN.{length, length-map, getD}
 use Rattle.rules.specs.Checks.{isBelow}
 use Rattle.rules.specs.Order.{noLeg}
 use Rattle.rules.proofs.Bounds.{settings-bounds}
-use Rattle.complex_checks.proofs.Laws.{least-bound, buy-buy-tested, buy-buy-untested}
+use Rattle.buy_buy.proofs.Laws.{least-bound, buy-buy-tested, buy-buy-untested}
 use borrow.Author.Needs.{needs}
-use Rattle.complex_checks.proofs.buy_buy.Statement.{statement}
-use Rattle.complex_checks.proofs.buy_buy.Tie as tie
+use Rattle.buy_buy.proofs.buy_buy.Statement.{statement}
+use Rattle.buy_buy.proofs.buy_buy.Tie as tie
 
 fits : (c : tie.Start) → c .args .t3 .len ≤ length (c .args .t3 .legs)
 fits c = let e : length (c .args .t3 .legs) ≡ 16 = sym (length-map (c .args .t3 .legs) _) ∙ c .good .1 .1 .0 .1 .1 .0 .1 .0 .1 in omega (arith, e, c .pre .few)

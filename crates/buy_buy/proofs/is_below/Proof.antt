@@ -1,7 +1,7 @@
 -- The test is the definition's, choice for choice.
 use Rattle.rules.specs.Checks.{isBelow}
-use Rattle.complex_checks.proofs.is_below.Statement.{statement}
-use Rattle.complex_checks.proofs.is_below.Tie as tie
+use Rattle.buy_buy.proofs.is_below.Statement.{statement}
+use Rattle.buy_buy.proofs.is_below.Tie as tie
 
 returns : tie.Need-returns
 unfolding isBelow

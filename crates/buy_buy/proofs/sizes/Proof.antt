@@ -7,9 +7,9 @@ use lib.ListN.{length, take, drop, length-map}
 use lib.Seq.{length-take-le}
 use Rattle.rules.specs.Checks.{sizes}
 use Rattle.rules.specs.Order.{noLeg}
-use Rattle.complex_checks.proofs.Laws.{sizes-turn, sizes-end, sizes-bound}
-use Rattle.complex_checks.proofs.sizes.Statement.{statement}
-use Rattle.complex_checks.proofs.sizes.Tie as tie
+use Rattle.buy_buy.proofs.Laws.{sizes-turn, sizes-end, sizes-bound}
+use Rattle.buy_buy.proofs.sizes.Statement.{statement}
+use Rattle.buy_buy.proofs.sizes.Tie as tie
 
 abbrev Inv-loop : tie.InvT-loop
 Inv-loop us n sum₀ i₀ sum i = sum + sizes (drop i (take n (us .legs))) ≡ sizes (take n (us .legs))
