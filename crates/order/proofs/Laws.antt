@@ -33,9 +33,9 @@ whole-lengths symbols counts h = let k = and-both (eqb (length counts % 8) 0) _ 
 pub copied : (copy s : List ℕ) (i : ℕ) → i < length copy → i < length s → take i copy ≡ take i s → take (i + 1) (set copy i (getD s i 0)) ≡ take (i + 1) s
 copied copy s i h k e = rw (add-one, take-suc-set copy i (getD s i 0) h, take-suc s i 0 k, e)
 
--- a count of 8 bytes, byte by byte
+-- a count of 8 bytes, by its halves
 pub word-read : (s : List ℕ) → length s ≡ 8 →
-    getD s 0 0 + 256 * (getD s 1 0 + 256 * (getD s 2 0 + 256 * (getD s 3 0 + 256 * (getD s 4 0 + 256 * (getD s 5 0 + 256 * (getD s 6 0 + 256 * getD s 7 0)))))) ≡ word s
+    word (getD s 0 0 ∷ getD s 1 0 ∷ getD s 2 0 ∷ getD s 3 0 ∷ []) + 4294967296 * word (getD s 4 0 ∷ getD s 5 0 ∷ getD s 6 0 ∷ getD s 7 0 ∷ []) ≡ word s
 unfolding word
 word-read s h =
     let e : s ≡ bytesAt 8 0 s = sym (take-all 8 s (omega arith)) ∙ slice-bytes 8 0 8 s refl (omega arith) in

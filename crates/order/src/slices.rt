@@ -5,7 +5,8 @@ use rules::Order;
 use rules::RawLeg;
 use rules::Terms;
 ghost use mathlib.Core.Path.{_≡_};
-ghost use Prim.Native.Nat.{_*_, _≤_};
+ghost use mathlib.Core.List.{[], _∷_};
+ghost use Prim.Native.Nat.{_*_, _<_, _≤_};
 ghost use lib.ListN.{length};
 ghost use Rattle.rules.specs.Numbers.{areWhole};
 ghost use Rattle.rules.specs.Order.{word, rawLeg};
@@ -21,20 +22,21 @@ pub fn are_whole(symbols: &[u8], counts: &[u8]) -> bool
     both(counts.len() % 8 == 0, paired)
 }
 
+// Four bytes as a number, the low one first.
+fn half(b0: u8, b1: u8, b2: u8, b3: u8) -> u64
+    ensures { λ r. ⌜ (r ≡ word (b0 ∷ b1 ∷ b2 ∷ b3 ∷ [])) × (r < 4294967296) ⌝ }
+{
+    wide(b0) + 256 * (wide(b1) + 256 * (wide(b2) + 256 * wide(b3)))
+}
+
 // The count's 8 bytes as one number, the low byte first.
 fn word(count: &[u8]) -> u64
     requires { ⌜ length (now count) ≡ 8 ⌝ }
     ensures { λ r. ⌜ r ≡ word (now (count .entry)) ⌝ }
 {
-    let b0 = wide(count[0]);
-    let b1 = wide(count[1]);
-    let b2 = wide(count[2]);
-    let b3 = wide(count[3]);
-    let b4 = wide(count[4]);
-    let b5 = wide(count[5]);
-    let b6 = wide(count[6]);
-    let b7 = wide(count[7]);
-    b0 + 256 * (b1 + 256 * (b2 + 256 * (b3 + 256 * (b4 + 256 * (b5 + 256 * (b6 + 256 * b7))))))
+    let low = half(count[0], count[1], count[2], count[3]);
+    let high = half(count[4], count[5], count[6], count[7]);
+    low + 4294967296 * high
 }
 
 // A copy of the symbol's bytes, for the leg to keep.

@@ -9,7 +9,7 @@ use Rattle.rules.specs.Numerals.{numeral}
 use Rattle.rules.specs.Symbol.{isRoot, inLimits, inLayout}
 use Rattle.rules.proofs.Slices.{bytesAt}
 use Rattle.rules.proofs.Symbols.{laid, limits}
-use Rattle.writer.specs.Writer.{Fits}
+use Rattle.symbol_bytes.specs.Parts.{Fits}
 
 -- a root's number past six bytes
 pub root-too-large : (p : SymbolParts) → 256 ^ 6 ≤ p .root → false ≡ inLayout p

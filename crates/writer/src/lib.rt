@@ -1,15 +1,15 @@
 // The symbol writer.
-use numeral::digits::byte_of;
 use roots::is_root;
 use roots::root_bytes;
 use rules::SymbolParts;
 use symbol::reader::in_limits;
+use symbol_bytes::symbol_of;
 ghost use mathlib.Core.Path.{_≡_};
 ghost use mathlib.Core.List.{_++_};
 ghost use Prim.Native.Nat.{_≤_};
 ghost use lib.ListN.{length, drop};
-ghost use Rattle.rules.specs.Symbol.{inLayout, symbolOf, writeSymbol};
-ghost use Rattle.writer.specs.Writer.{Fits, Handed};
+ghost use Rattle.rules.specs.Symbol.{inLayout, writeSymbol};
+ghost use Rattle.writer.specs.Writer.{Handed};
 
 fn in_layout(p: SymbolParts) -> bool
     ensures { λ r. ⌜ r ≡ inLayout p ⌝ }
@@ -20,44 +20,6 @@ fn in_layout(p: SymbolParts) -> bool
     }
     let b = root_bytes(p.root);
     choice::both(is_root(b[0], b[1], b[2], b[3], b[4], b[5]), in_limits(p))
-}
-
-fn symbol_of(p: SymbolParts) -> [u8; 21]
-    requires { ⌜ Fits p ⌝ }
-    ensures { λ r. ⌜ r ≡ symbolOf p ⌝ }
-{
-    let b = root_bytes(p.root);
-    let year = p.year - 2000;
-    let k0 = p.strike.0;
-    let k1 = k0 % 10000000;
-    let k2 = k1 % 1000000;
-    let k3 = k2 % 100000;
-    let k4 = k3 % 10000;
-    let k5 = k4 % 1000;
-    let k6 = k5 % 100;
-    [
-        b[0],
-        b[1],
-        b[2],
-        b[3],
-        b[4],
-        b[5],
-        byte_of(year / 10),
-        byte_of(year % 10),
-        byte_of(p.month / 10),
-        byte_of(p.month % 10),
-        byte_of(p.day / 10),
-        byte_of(p.day % 10),
-        p.right as u8,
-        byte_of(k0 / 10000000),
-        byte_of(k1 / 1000000),
-        byte_of(k2 / 100000),
-        byte_of(k3 / 10000),
-        byte_of(k4 / 1000),
-        byte_of(k5 / 100),
-        byte_of(k6 / 10),
-        byte_of(k6 % 10),
-    ]
 }
 
 // The buffer's first 21 bytes become the symbol; the others stay.
