@@ -149,6 +149,7 @@ static void test_numbers(void) {
         expect(answer(&m, &alone).number == numbers[i], "not the number that was meant");
         expect_counted(&m, &tally);
     }
+    /* Of the list of numbers: nine refusals, one accepted, six checks. */
     const struct opc_tally expected = {.seen = 16, .refused = 9, .accepted = 1, .rejected = 6};
     now = tally;
     expect(same_tally(&tally, &expected), "the tally of one check of each number");

@@ -49,6 +49,7 @@ fn check_paired(arrival: &Arrival, pair: fn(&[Leg], bool) -> Paired) -> Answer {
     };
     let checks = checks::all(&order, &arrival.settings, &arrival.market);
     let switched = checks.map(|(number, rejects)| {
+        // The switches of 20 to 26 stand in the sequence of their numbers.
         let switch = arrival.settings.switches[number as usize - 20];
         (number, rejects && switch != 0)
     });

@@ -56,7 +56,7 @@ pub fn add(tally: Tally, answer: Answer) -> TalliedAnswer {
     }
     let kind = match answer.number {
         ACCEPTED => 1,
-        20.. => 2,
+        20.. => 2, // checks; no refusal of an order is above 12
         _ => 0,
     };
     kinds[kind] += 1;
