@@ -4,6 +4,7 @@
  * cancel flag is given too. Run at the top of the repository. Exit status 1 and a message on the
  * first failure, one line with the number of checks otherwise.
  */
+#include "answers.h"
 #include "expect.h"
 #include "made_orders.h"
 #include "made_quotes.h"
@@ -125,6 +126,7 @@ static void test_numbers(void) {
         for (size_t n = 0; n < RANDOM_CASES; n++) {
             uint64_t number = entries[i].number();
             expect((said & only(number)) != 0, "a number that docs/HOST.md does not say");
+            expect(strcmp(number_name(number), "unknown") != 0, "a number without a name");
             given |= only(number);
         }
         expect(given == said, "a number that docs/HOST.md says, and no call was given");

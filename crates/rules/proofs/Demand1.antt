@@ -21,7 +21,7 @@ use Rattle.rules.specs.Lists.{all, any}
 use Rattle.rules.specs.Order.{isYes, rawLegs, recordLegs, termsOf, seriesOf, legsOf, units}
 use Rattle.rules.specs.Pairing.{byStrike, bothWalks}
 use Rattle.rules.specs.Class.{classOf}
-use Rattle.rules.specs.Numbers.{refusals, refusal, rejections, rejection, judged, refused, outcome, checkLegs, checkOrder, areWhole, checkSlices}
+use Rattle.rules.specs.Numbers.{refusals, refusal, rejections, rejection, judged, isRefusal, refused, outcome, checkLegs, checkOrder, areWhole, checkSlices}
 use Rattle.rules.specs.Symbol.{partsOf}
 use Rattle.rules.specs.Quote.{quoteRefusals, quoteRefusal, quoteRejections, quoteRejection, answeredQuote, quoteOutcome, checkQuote}
 use Rattle.rules.specs.Tally.{isBadTally, tallied, Call, orderAnswer, checkTallied}
@@ -71,10 +71,10 @@ module _ (st : Settings) (m : Market) (t : Terms) where
   unfolding refusal any
   refusal-number n rs = first-of InNumbers (refusals st m t n rs) refl (λ e. refl, (λ e. refl, (λ e. refl, (λ e. refl, (λ e. refl, (λ e. refl, (λ e. refl, (λ e. refl, tt))))))))
 
-  rejection-number : (us : List Leg) (class : ℕ) → InNumbers (rejection st m t us class) × (within 1 12 (rejection st m t us class) ≡ false)
+  rejection-number : (us : List Leg) (class : ℕ) → InNumbers (rejection st m t us class) × (isRefusal (rejection st m t us class) ≡ false)
   unfolding rejection any
   rejection-number us class =
-      first-of (λ n. InNumbers n × (within 1 12 n ≡ false)) (rejections st m t us class) (refl, refl)
+      first-of (λ n. InNumbers n × (isRefusal n ≡ false)) (rejections st m t us class) (refl, refl)
       (λ e. (refl, refl), (λ e. (refl, refl), (λ e. (refl, refl), (λ e. (refl, refl), (λ e. (refl, refl), (λ e. (refl, refl), tt))))))
 
   legs-answers : (n : ℕ) (rs : List RawLeg) → OrderAnswers (checkLegs st m t n rs)
@@ -116,7 +116,7 @@ module _ (st : Settings) (m : Market) where
 
   -- a rejection is none of the refusals' numbers, and 20 to 26 where it is not 0
   abbrev IsQuoteRejection : ℕ → Type 0
-  IsQuoteRejection n = (any (eqb n) quoteNumbers ≡ true) × (within 1 12 n ≡ false) × (within 20 26 n ≡ not (eqb n 0))
+  IsQuoteRejection n = (any (eqb n) quoteNumbers ≡ true) × (isRefusal n ≡ false) × (within 20 26 n ≡ not (eqb n 0))
 
   quote-rejection-number : (s : Series) (bid offer : Mills) → IsQuoteRejection (quoteRejection st m s bid offer)
   unfolding quoteRejection any

@@ -21,7 +21,7 @@ use Rattle.rules.specs.Order.{isYes, Lent, lentLegs, recordLegs, priceOf
 use Rattle.rules.specs.Pairing.{byStrike, bothWalks}
 use Rattle.rules.specs.Class.{classOf}
 use Rattle.rules.specs.Fair.{Has, Fair}
-use Rattle.rules.specs.Numbers.{isBadCount, refusal, rejection, judged, outcome, checkLegs, checkOrder, Inputs}
+use Rattle.rules.specs.Numbers.{isBadCount, isRefusal, refusal, rejection, judged, outcome, checkLegs, checkOrder, Inputs}
 use Rattle.rules.specs.Demand3.{IsWhole, IsValid, NotRejected, arrival, orderLegs, Arrivals, Demand3}
 use Rattle.rules.proofs.Tests.{and-both, or-neither, within-both}
 use Rattle.rules.proofs.Sorting.{all-perm, perm-sym, map-perm, length-perm}
@@ -55,11 +55,11 @@ module _ (st : Settings) (m : Market) (t : Terms) (n : ℕ) (rs : List RawLeg) w
       (λ e. omega arith, (λ e. omega arith, (λ e. omega arith, (λ e. omega arith, (λ e. omega arith, (λ e. omega arith, (λ e. omega arith, (λ e. omega arith, tt))))))))
 
   -- a valid order is not refused
-  valid-judged : within 1 12 (checkLegs st m t n rs .number) ≡ false → refusal st m t n rs ≡ 0
+  valid-judged : isRefusal (checkLegs st m t n rs .number) ≡ false → refusal st m t n rs ≡ 0
   unfolding checkLegs outcome
   valid-judged h = go (refusal st m t n rs) refl h
     where
-      go : (k : ℕ) → refusal st m t n rs ≡ k → within 1 12 (outcome k (judged st m t (byStrike (legsOf rs))) .number) ≡ false → k ≡ 0
+      go : (k : ℕ) → refusal st m t n rs ≡ k → isRefusal (outcome k (judged st m t (byStrike (legsOf rs))) .number) ≡ false → k ≡ 0
       go zero e g = refl
       go (suc k) e g =
           let l : suc k ≤ 10 = omega (arith, refusal-small) in

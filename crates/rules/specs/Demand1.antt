@@ -17,7 +17,7 @@ use Rattle.rules.specs.declared.Tally.{Tally}
 use Rattle.rules.specs.declared.TalliedAnswer.{TalliedAnswer}
 use Rattle.rules.specs.Limits.{within}
 use Rattle.rules.specs.Order.{isYes}
-use Rattle.rules.specs.Numbers.{checkOrder, checkSlices}
+use Rattle.rules.specs.Numbers.{isRefusal, checkOrder, checkSlices}
 use Rattle.rules.specs.Quote.{checkQuote}
 use Rattle.rules.specs.Tally.{Call, checkTallied}
 use Rattle.rules.specs.Symbol.{readSymbol, writeSymbol, SymbolWritten}
@@ -44,7 +44,7 @@ orderNumbers = 0 ∷ 1 ∷ 3 ∷ 4 ∷ 5 ∷ 6 ∷ 7 ∷ 8 ∷ 9 ∷ 10 ∷ 20 �
 
 pub record OrderAnswers (r : OrderAnswer) : Type 0 where
   pub number : List·Memᴰ (r .number) orderNumbers
-  pub refusal : within 1 12 (r .number) ≡ true → (r .class ≡ 0) × (r .shape ≡ 0) × (r .pairings ≡ 0)
+  pub refusal : isRefusal (r .number) ≡ true → (r .class ≡ 0) × (r .shape ≡ 0) × (r .pairings ≡ 0)
 
 pub record OrderCheck : Type 0 where
   pub slices : (st : Settings) (m : Market) (t : Terms) (symbols counts : List ℕ) → OrderAnswers (checkSlices st m t symbols counts)
@@ -56,7 +56,7 @@ quoteNumbers = 0 ∷ 1 ∷ 4 ∷ 9 ∷ 10 ∷ 11 ∷ 20 ∷ 21 ∷ 26 ∷ []
 
 pub record QuoteAnswers (resting : ℕ) (r : QuoteAnswer) : Type 0 where
   pub number : List·Memᴰ (r .number) quoteNumbers
-  pub refusal : within 1 12 (r .number) ≡ true → r .cancel ≡ 0
+  pub refusal : isRefusal (r .number) ≡ true → r .cancel ≡ 0
   -- "set if 20, 21 or 26 rejects a quote with one resting, else clear"
   pub flag : r .cancel ≡ cond (isYes resting && within 20 26 (r .number)) 1 0
 
@@ -66,7 +66,7 @@ QuoteCheck = (st : Settings) (m : Market) (symbol : List ℕ) (bid offer : Mills
 -- the tallied check, of the tally that comes: a refusal's other fields but the tally are zero, and on 12 the tally is as it came
 pub record TalliedAnswers (t : Tally) (r : TalliedAnswer) : Type 0 where
   pub number : List·Memᴰ (r .answer .number) (12 ∷ orderNumbers)
-  pub refusal : within 1 12 (r .answer .number) ≡ true → (r .answer .class ≡ 0) × (r .answer .shape ≡ 0) × (r .answer .pairings ≡ 0)
+  pub refusal : isRefusal (r .answer .number) ≡ true → (r .answer .class ≡ 0) × (r .answer .shape ≡ 0) × (r .answer .pairings ≡ 0)
   pub unchanged : r .answer .number ≡ 12 → r .tally ≡ t
 
 abbrev pub TalliedCheck : Type 0

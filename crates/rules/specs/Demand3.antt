@@ -12,11 +12,10 @@ use Rattle.rules.specs.declared.Leg.{Leg}
 use Rattle.rules.specs.declared.Settings.{Settings}
 use Rattle.rules.specs.declared.Market.{Market}
 use Rattle.rules.specs.declared.OrderAnswer.{OrderAnswer}
-use Rattle.rules.specs.Limits.{within}
 use Rattle.rules.specs.Lists.{All, Perm}
 use Rattle.rules.specs.Order.{Lent, symbolsOf, countsOf, lentLegs, recordLegs, signedPrice, legsOf, netWorth}
 use Rattle.rules.specs.Fair.{Fair}
-use Rattle.rules.specs.Numbers.{checkOrder, areWhole, Inputs, answerTo}
+use Rattle.rules.specs.Numbers.{isRefusal, checkOrder, areWhole, Inputs, answerTo}
 
 -- an arrival of legs; both are "alike in price, kind, flags, settings, market and all else"
 abbrev pub arrival : Inputs → List Lent → OrderAnswer
@@ -26,9 +25,9 @@ arrival a xs = answerTo a (symbolsOf xs) (countsOf xs)
 abbrev pub IsWhole : Lent → Type 0
 IsWhole l = (length (l .symbol) ≡ 21) × (length (l .count) ≡ 8)
 
--- "An order not refused is valid." Refusals are the numbers 1 to 12.
+-- "An order not refused is valid."
 abbrev pub IsValid : OrderAnswer → Type 0
-IsValid r = within 1 12 (r .number) ≡ false
+IsValid r = isRefusal (r .number) ≡ false
 
 -- the legs of the order, as read
 abbrev pub orderLegs : List Lent → List Leg

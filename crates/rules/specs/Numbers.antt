@@ -86,6 +86,10 @@ judged st m t ls =
     let class = classOf us w in
     record { number = rejection st m t us class; class = class; shape = shapeOf us; pairings = length (w .pairs) }
 
+-- the numbers of refusals
+abbrev pub isRefusal : ℕ → Bool
+isRefusal n = within 1 12 n
+
 -- "1 to 12 return zeros elsewhere"
 abbrev pub refused : ℕ → OrderAnswer
 refused n = record { number = n; class = 0; shape = 0; pairings = 0 }
