@@ -19,7 +19,6 @@ use Rattle.rules.specs.Checks.{isPositive, isNegative, simpleBuy, buyBuy, debit
 use Rattle.rules.specs.Market.{tickDistance}
 use Rattle.rules.specs.Numbers.{firstOf, rejection}
 use Rattle.rules.proofs.Tests.{and-no}
-use Rattle.rules.proofs.Numbering.{stop, skip, ended}
 use Rattle.buy_buy.specs.Complex.{LegWithin}
 
 -- ---- check 23
@@ -81,18 +80,6 @@ module _ (st : Settings) (t : Terms) (ls : List Leg) (class : ℕ) (complex : is
   not-simple : isSimple ls ≡ false
   not-simple = ne-eqb (length ls) 1 (λ e. omega (arith, leb-true 2 (length ls) complex))
 
-  several : (m : Market) {r : ℕ} → r ≡ firstOf ((sums, 22) ∷ (signs, 23) ∷ (maximum, 24) ∷ []) → r ≡ rejection st m t ls class
+  pub several : {p q v : Bool} {r : ℕ} → p ≡ sums → q ≡ signs → v ≡ maximum → r ≡ firstOf ((p, 22) ∷ (q, 23) ∷ (v, 24) ∷ []) → (m : Market) → r ≡ rejection st m t ls class
   unfolding rejection firstOf simpleBuy tickDistance every
-  several m e = rw (not-simple, and-no (isYes (st .check20)), and-no (isYes (st .check21)), and-no (isYes (st .check25))) e
-
-  pub rejects-sum : sums ≡ true → (m : Market) → 22 ≡ rejection st m t ls class
-  rejects-sum h m = several m (stop 22 _ h)
-
-  pub rejects-sign : sums ≡ false → signs ≡ true → (m : Market) → 23 ≡ rejection st m t ls class
-  rejects-sign h k m = several m (skip 22 _ h (stop 23 _ k))
-
-  pub rejects-maximum : sums ≡ false → signs ≡ false → maximum ≡ true → (m : Market) → 24 ≡ rejection st m t ls class
-  rejects-maximum h k l m = several m (skip 22 _ h (skip 23 _ k (stop 24 _ l)))
-
-  pub accepts : sums ≡ false → signs ≡ false → maximum ≡ false → (m : Market) → 0 ≡ rejection st m t ls class
-  accepts h k l m = several m (skip 22 _ h (skip 23 _ k (skip 24 _ l ended)))
+  several a b d e m = rw (not-simple, and-no (isYes (st .check20)), and-no (isYes (st .check21)), and-no (isYes (st .check25)), ← a, ← b, ← d) e

@@ -5,6 +5,7 @@ use choice::both;
 use choice::either;
 use choice::greater;
 use choice::smaller;
+use first::first_of_three;
 use price::is_negative;
 use price::is_positive;
 use rules::Legs;
@@ -71,14 +72,12 @@ pub fn rejection(st: Settings, t: Terms, us: Legs, class: u64, shape: u64) -> u6
     requires { ⌜ ComplexOrder st us × (shape ≡ shapeOf (legsIn us)) ⌝ }
     ensures { λ r. ⌜ ((m : Market) → r ≡ rejection st m t (legsIn us) class) ⌝ }
 {
-    if both(st.check22 != 0, buy_buy(st, t, us)) {
-        return 22;
-    }
-    if both(st.check23 != 0, debit_credit(t, class)) {
-        return 23;
-    }
-    if both(st.check24 != 0, maximum_value(st, t, us, shape)) {
-        return 24;
-    }
-    0
+    first_of_three(
+        both(st.check22 != 0, buy_buy(st, t, us)),
+        22,
+        both(st.check23 != 0, debit_credit(t, class)),
+        23,
+        both(st.check24 != 0, maximum_value(st, t, us, shape)),
+        24,
+    )
 }

@@ -96,7 +96,7 @@ fn t1() {
     show(1, Given::Nothing, t1, 15000);
 }
 
-fn t2_to_t4() {
+fn t2() {
     let t2 = three(
         buy(10, JAN, 20, CALL),
         sell(20, JAN, 25, CALL),
@@ -109,12 +109,18 @@ fn t2_to_t4() {
     );
     show(2, Given::Nothing, t2, -20000);
     show(2, Given::Nothing, at_30, -20000);
+}
+
+fn t3() {
     let t3 = three(
         sell(20, JAN, 10, PUT),
         buy(40, JAN, 20, PUT),
         sell(20, JAN, 30, PUT),
     );
     show(3, Given::Nothing, t3, 20000);
+}
+
+fn t4() {
     let t4 = three(
         buy(5, JAN, 35, PUT),
         sell(10, JAN, 45, PUT),
@@ -129,18 +135,13 @@ fn t2_to_t4() {
     show(4, Given::Nothing, at_40, -25000);
 }
 
-fn t5_to_t7() {
+fn t5() {
     let t5 = three(
         buy(1, JAN, 10, CALL),
         sell(2, JAN, 20, CALL),
         buy(1, JAN, 15, PUT),
     );
     show(5, Given::Nothing, t5, 8000);
-    show(6, Given::Nothing, box_of(), -28000);
-    show(6, Given::Nothing, box_of(), -24000);
-    let t7 = two(sell(1, JAN, 45, CALL), sell(1, JAN, 50, CALL));
-    show(7, Given::Nothing, t7, -20);
-    show(7, Given::Nothing, t7, -19);
 }
 
 // T6's box, which is T9's too.
@@ -155,12 +156,29 @@ fn box_of() -> Legs
     )
 }
 
-fn t8_to_t10() {
+fn t6() {
+    show(6, Given::Nothing, box_of(), -28000);
+    show(6, Given::Nothing, box_of(), -24000);
+}
+
+fn t7() {
+    let t7 = two(sell(1, JAN, 45, CALL), sell(1, JAN, 50, CALL));
+    show(7, Given::Nothing, t7, -20);
+    show(7, Given::Nothing, t7, -19);
+}
+
+fn t8() {
     let t8 = two(buy(1, MAR, 20, CALL), sell(1, JUN, 20, CALL));
     show(8, Given::Nothing, t8, -1000);
     show(8, Given::EuropeanIndex, t8, -1000);
+}
+
+fn t9() {
     show(9, Given::Nothing, box_of(), -25600);
     show(9, Given::Nothing, box_of(), -25601);
+}
+
+fn t10() {
     let t10 = three(
         buy(1, MAR, 20, CALL),
         sell(1, JUN, 20, CALL),
@@ -169,13 +187,16 @@ fn t8_to_t10() {
     show(10, Given::Nothing, t10, 0);
 }
 
-fn t11_and_t12() {
+fn t11() {
     let call = one(buy(1, JAN, 5, CALL));
     show(11, Given::Underlying, call, 8000);
     show(11, Given::Underlying, call, 11000);
     let put = one(buy(1, JAN, 18, PUT));
     show(11, Given::Nothing, put, 17999);
     show(11, Given::Nothing, put, 18000);
+}
+
+fn t12() {
     let t12 = one(buy(1, JAN, 20, CALL));
     show(12, Given::Offer, t12, 1250);
     show(12, Given::Offer, t12, 1251);
@@ -184,8 +205,15 @@ fn t11_and_t12() {
 fn main() {
     table::head();
     t1();
-    t2_to_t4();
-    t5_to_t7();
-    t8_to_t10();
-    t11_and_t12();
+    t2();
+    t3();
+    t4();
+    t5();
+    t6();
+    t7();
+    t8();
+    t9();
+    t10();
+    t11();
+    t12();
 }

@@ -152,6 +152,10 @@ fn write_number(n: u64) {
     blanks(less(4, digits(n)));
     decimal(0, n);
     text(0, b" ");
+    write_meaning(n);
+}
+
+fn write_meaning(n: u64) {
     match n {
         0 => column(19, b"accepted"),
         20 => column(19, b"put check"),

@@ -12,7 +12,6 @@ use Rattle.rules.specs.Symbol.{partsOf}
 use Rattle.rules.specs.Order.{isYes, seriesOf}
 use Rattle.rules.specs.Checks.{putTest, callTest}
 use Rattle.rules.specs.Quote.{quoteInversion, quoteRefusal, quoteRejection, answeredQuote, quoteOutcome, checkQuote}
-use Rattle.rules.proofs.Numbering.{stop, skip, ended}
 
 -- ---- the first check that applies
 
@@ -26,21 +25,9 @@ module _ (st : Settings) (m : Market) (s : Series) (bid offer : Mills) where
   abbrev inverted : Bool
   inverted = isYes (st .check26) && quoteInversion st m bid offer
 
-  pub rejects-put : put ≡ true → 20 ≡ quoteRejection st m s bid offer
+  pub first-test : {p c v : Bool} {r : ℕ} → p ≡ put → c ≡ call → v ≡ inverted → r ≡ firstOf ((p, 20) ∷ (c, 21) ∷ (v, 26) ∷ []) → r ≡ quoteRejection st m s bid offer
   unfolding quoteRejection
-  rejects-put h = stop 20 _ h
-
-  pub rejects-call : put ≡ false → call ≡ true → 21 ≡ quoteRejection st m s bid offer
-  unfolding quoteRejection
-  rejects-call h k = skip 20 _ h (stop 21 _ k)
-
-  pub rejects-inverted : put ≡ false → call ≡ false → inverted ≡ true → 26 ≡ quoteRejection st m s bid offer
-  unfolding quoteRejection
-  rejects-inverted h k l = skip 20 _ h (skip 21 _ k (stop 26 _ l))
-
-  pub accepts : put ≡ false → call ≡ false → inverted ≡ false → 0 ≡ quoteRejection st m s bid offer
-  unfolding quoteRejection
-  accepts h k l = skip 20 _ h (skip 21 _ k (skip 26 _ l ended))
+  first-test a b d e = rw (← a, ← b, ← d) e
 
 -- ---- the answer
 

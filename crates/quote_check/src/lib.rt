@@ -1,6 +1,7 @@
 // The quote check.
 use choice::both;
 use choice::pick;
+use first::first_of_three;
 use inversion::quote_inversion;
 use paid::call_test;
 use paid::put_test;
@@ -20,16 +21,14 @@ pub fn rejection(st: Settings, m: Market, s: Series, bid: Mills, offer: Mills) -
     requires { ⌜ (settingsHold st ≡ true) × (marketHolds m ≡ true) ⌝ }
     ensures { λ r. ⌜ r ≡ quoteRejection st m s bid offer ⌝ }
 {
-    if both(st.check20 != 0, put_test(s, bid)) {
-        return 20;
-    }
-    if both(st.check21 != 0, call_test(st, m, s, bid)) {
-        return 21;
-    }
-    if both(st.check26 != 0, quote_inversion(st, m, bid, offer)) {
-        return 26;
-    }
-    0
+    first_of_three(
+        both(st.check20 != 0, put_test(s, bid)),
+        20,
+        both(st.check21 != 0, call_test(st, m, s, bid)),
+        21,
+        both(st.check26 != 0, quote_inversion(st, m, bid, offer)),
+        26,
+    )
 }
 
 // A rejection cancels the resting quote.

@@ -33,22 +33,9 @@ unfolding firstOf
 none-applies true n es h = absurd (omega arith)
 none-applies false n es h = (refl, h)
 
--- a test that applies gives its number, one that does not is passed over, and after the last there is none
-pub stop : {b : Bool} (n : ℕ) (es : List (Bool × ℕ)) → b ≡ true → n ≡ firstOf ((b, n) ∷ es)
-unfolding firstOf
-stop n es h = rw h
-
-pub skip : {b : Bool} (n : ℕ) (es : List (Bool × ℕ)) {r : ℕ} → b ≡ false → r ≡ firstOf es → r ≡ firstOf ((b, n) ∷ es)
-unfolding firstOf
-skip n es h e = rw h e
-
-pub ended : 0 ≡ firstOf []
-unfolding firstOf
-ended = refl
-
--- what is found of a switch and its check is so of the definition's
-pub tested : (on : Bool) {p q b v : Bool} → p ≡ q → b ≡ on && p → b ≡ v → on && q ≡ v
-tested on e f g = cc
+-- a check with its switch is the definition's where the check is
+pub switched : (on : Bool) {p q b : Bool} → p ≡ q → b ≡ on && p → b ≡ on && q
+switched on e f = cc
 
 -- the numbers rise from `n`
 abbrev rises : ℕ → List (Bool × ℕ) → Bool

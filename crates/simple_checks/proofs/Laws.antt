@@ -17,7 +17,6 @@ use Rattle.rules.specs.Class.{shapeOf}
 use Rattle.rules.specs.Market.{isTooFar, tickDistance}
 use Rattle.rules.specs.Numbers.{firstOf, rejection}
 use Rattle.rules.proofs.Tests.{and-no}
-use Rattle.rules.proofs.Numbering.{stop, skip, ended}
 
 buy-grouped : (asked paid bought passed : Bool) → ((asked && paid) && bought) && passed ≡ every (true ∷ asked ∷ paid ∷ ((bought && passed) && true) ∷ [])
 unfolding every
@@ -64,18 +63,6 @@ module _ (st : Settings) (m : Market) (t : Terms) (u : Leg) where
   abbrev far : Bool
   far = isYes (st .check25) && tickDistance st m t (u ∷ [])
 
-  one-leg : (class : ℕ) {r : ℕ} → r ≡ firstOf ((put, 20) ∷ (call, 21) ∷ (far, 25) ∷ []) → r ≡ rejection st m t (u ∷ []) class
+  pub one-leg : {p c f : Bool} {r : ℕ} → p ≡ put → c ≡ call → f ≡ far → r ≡ firstOf ((p, 20) ∷ (c, 21) ∷ (f, 25) ∷ []) → (class : ℕ) → r ≡ rejection st m t (u ∷ []) class
   unfolding rejection firstOf buyBuy debitCredit maximumValue shapeOf every
-  one-leg class e = rw (and-no (isYes (st .check22)), and-no (isYes (st .check23)), and-no (isYes (st .check24))) e
-
-  pub rejects-put : put ≡ true → (class : ℕ) → 20 ≡ rejection st m t (u ∷ []) class
-  rejects-put h class = one-leg class (stop 20 _ h)
-
-  pub rejects-call : put ≡ false → call ≡ true → (class : ℕ) → 21 ≡ rejection st m t (u ∷ []) class
-  rejects-call h k class = one-leg class (skip 20 _ h (stop 21 _ k))
-
-  pub rejects-far : put ≡ false → call ≡ false → far ≡ true → (class : ℕ) → 25 ≡ rejection st m t (u ∷ []) class
-  rejects-far h k l class = one-leg class (skip 20 _ h (skip 21 _ k (stop 25 _ l)))
-
-  pub accepts : put ≡ false → call ≡ false → far ≡ false → (class : ℕ) → 0 ≡ rejection st m t (u ∷ []) class
-  accepts h k l class = one-leg class (skip 20 _ h (skip 21 _ k (skip 25 _ l ended)))
+  one-leg a b d e class = rw (and-no (isYes (st .check22)), and-no (isYes (st .check23)), and-no (isYes (st .check24)), ← a, ← b, ← d) e

@@ -1,6 +1,7 @@
 // The checks of a simple order: 20, 21 and 25, and the first of them that applies.
 use choice::both;
 use choice::negated;
+use first::first_of_three;
 use paid::call_test;
 use paid::put_test;
 use quantity::distance;
@@ -77,14 +78,12 @@ pub fn rejection(st: Settings, m: Market, t: Terms, u: Leg) -> u64
     requires { ⌜ (settingsHold st ≡ true) × (marketHolds m ≡ true) ⌝ }
     ensures { λ r. ⌜ ((class : ℕ) → r ≡ rejection st m t (u ∷ []) class) ⌝ }
 {
-    if both(st.check20 != 0, put(t, u)) {
-        return 20;
-    }
-    if both(st.check21 != 0, call(st, m, t, u)) {
-        return 21;
-    }
-    if both(st.check25 != 0, tick_distance(st, m, t, u)) {
-        return 25;
-    }
-    0
+    first_of_three(
+        both(st.check20 != 0, put(t, u)),
+        20,
+        both(st.check21 != 0, call(st, m, t, u)),
+        21,
+        both(st.check25 != 0, tick_distance(st, m, t, u)),
+        25,
+    )
 }

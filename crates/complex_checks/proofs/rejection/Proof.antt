@@ -1,12 +1,12 @@
--- The first check that applies: each return is one place of the definition's list.
+-- The first check that applies, of the three and their switches.
 use mathlib.Core.Path.{_≡_, sym, _∙_}
 use mathlib.Core.Bool.{true}
 use native.Mathlib.Omega.{arith}
 use lib.ListN.{length, length-map}
 use Rattle.rules.specs.Order.{isYes, legsIn, isComplex}
-use Rattle.rules.proofs.Numbering.{tested}
 use Rattle.buy_buy.proofs.Laws.{complex-take}
-use Rattle.complex_checks.proofs.Laws.{rejects-sum, rejects-sign, rejects-maximum, accepts}
+use Rattle.rules.proofs.Numbering.{switched}
+use Rattle.complex_checks.proofs.Laws.{several}
 use borrow.Author.Needs.{needs}
 use Rattle.complex_checks.proofs.rejection.Statement.{statement}
 use Rattle.complex_checks.proofs.rejection.Tie as tie
@@ -18,36 +18,13 @@ complex c =
 
 returns : tie.Need-returns
 returns c =
-    let s = c .before .before .before .before in
+    let s = c .before .before .before .before .before .before .before .before .before .before in
     let a = s .args in
-    rejects-sum (a .st) (a .t) (legsIn (a .us)) (a .class) (complex s)
-    (tested (isYes (a .st .check22)) (c .before .before .buy-buy .ensures) (c .before .both .ensures) (c .if1 .taken))
-
-returns-2 : tie.Need-returns-2
-returns-2 c =
-    let s = c .before .before .before .before .before .before .before .before in
-    let a = s .args in
-    rejects-sign (a .st) (a .t) (legsIn (a .us)) (a .class) (complex s)
-    (tested (isYes (a .st .check22)) (c .before .before .before .before .before .before .buy-buy .ensures) (c .before .before .before .before .before .both .ensures) (c .before .before .before .before .if1 .left))
-    (tested (isYes (a .st .check23)) (c .before .before .debit-credit .ensures _ (complex s)) (c .before .both2 .ensures) (c .if2 .taken))
-
-returns-3 : tie.Need-returns-3
-returns-3 c =
-    let s = c .before .before .before .before .before .before .before .before .before .before .before .before in
-    let a = s .args in
-    rejects-maximum (a .st) (a .t) (legsIn (a .us)) (a .class) (complex s)
-    (tested (isYes (a .st .check22)) (c .before .before .before .before .before .before .before .before .before .before .buy-buy .ensures) (c .before .before .before .before .before .before .before .before .before .both .ensures) (c .before .before .before .before .before .before .before .before .if1 .left))
-    (tested (isYes (a .st .check23)) (c .before .before .before .before .before .before .debit-credit .ensures _ (complex s)) (c .before .before .before .before .before .both2 .ensures) (c .before .before .before .before .if2 .left))
-    (tested (isYes (a .st .check24)) (c .before .before .maximum-value .ensures) (c .before .both3 .ensures) (c .if3 .taken))
-
-returns-4 : tie.Need-returns-4
-returns-4 c =
-    let s = c .before .before .before .before .before .before .before .before .before .before .before .before in
-    let a = s .args in
-    accepts (a .st) (a .t) (legsIn (a .us)) (a .class) (complex s)
-    (tested (isYes (a .st .check22)) (c .before .before .before .before .before .before .before .before .before .before .buy-buy .ensures) (c .before .before .before .before .before .before .before .before .before .both .ensures) (c .before .before .before .before .before .before .before .before .if1 .left))
-    (tested (isYes (a .st .check23)) (c .before .before .before .before .before .before .debit-credit .ensures _ (complex s)) (c .before .before .before .before .before .both2 .ensures) (c .before .before .before .before .if2 .left))
-    (tested (isYes (a .st .check24)) (c .before .before .maximum-value .ensures) (c .before .both3 .ensures) (c .if3 .left))
+    several (a .st) (a .t) (legsIn (a .us)) (a .class) (complex s)
+    (switched (isYes (a .st .check22)) (c .before .before .before .before .before .before .before .before .buy-buy .ensures) (c .before .before .before .before .before .before .before .both .ensures))
+    (switched (isYes (a .st .check23)) (c .before .before .before .before .before .debit-credit .ensures _ (complex s)) (c .before .before .before .before .both2 .ensures))
+    (switched (isYes (a .st .check24)) (c .before .before .maximum-value .ensures) (c .before .both3 .ensures))
+    (c .first-of-three .ensures)
 
 pub rejection-spec : {M : Type 1} → statement M
 rejection-spec =
@@ -55,11 +32,9 @@ rejection-spec =
     (tie.spec
     (λ c κs. search needs)
     (λ c κs. tt)
-    returns
     (λ c κs. tt)
     (λ c κs. tt)
-    returns-2
     (λ c κs. search needs)
     (λ c κs. tt)
-    returns-3
-    returns-4)
+    (λ c κs. tt)
+    returns)
