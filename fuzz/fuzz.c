@@ -25,8 +25,8 @@ static const char *const entry_names[ENTRIES] = {"opc_read_symbol", "opc_write_s
 #define NUMBERS 27
 #define PAIRINGS 16
 
-/* One for each input; an input is several calls. */
-static uint64_t inputs[ENTRIES][NUMBERS];
+/* One for each question; a question is put in several calls. */
+static uint64_t answers[ENTRIES][NUMBERS];
 static uint64_t calls[ENTRIES];
 static uint64_t classes[3];
 static uint64_t shapes[5];
@@ -44,7 +44,7 @@ static void print_list(const char *what, const uint64_t *times, size_t n) {
 static void print_counts(void) {
     for (size_t i = 0; i < ENTRIES; i++) {
         printf("calls %s %" PRIu64 "\n", entry_names[i], calls[i]);
-        print_list(entry_names[i], inputs[i], NUMBERS);
+        print_list(entry_names[i], answers[i], NUMBERS);
     }
     print_list("class", classes, sizeof classes / sizeof classes[0]);
     print_list("shape", shapes, sizeof shapes / sizeof shapes[0]);
@@ -55,7 +55,7 @@ static void print_counts(void) {
 
 static void count_answer(const struct call *call, uint64_t number) {
     if (number < NUMBERS) {
-        inputs[call->entry][number]++;
+        answers[call->entry][number]++;
     }
 }
 
@@ -336,19 +336,40 @@ static struct call in_another_sequence(const struct call *call) {
     return turned;
 }
 
-static void try_order(const struct call *call) {
+/* Both answers to an order, counted; gives the number. */
+static uint64_t ask_order(const struct call *call, struct opc_answer *second) {
     struct opc_order order = order_of(call, call->symbols, call->counts);
-    struct opc_answer second = second_check_order(&order, &call->settings, &call->market);
+    *second = second_check_order(&order, &call->settings, &call->market);
     struct opc_answer answer = order_directly(call, true);
-    expect_equal(call, "the answer to an order", &answer, &second, sizeof answer);
+    expect_equal(call, "the answer to an order", &answer, second, sizeof answer);
     count_order(call, &answer);
-    answer = order_directly(call, false);
+    return answer.number;
+}
+
+/* The same order at the prices next to its own, and for the opposite amount. */
+static void ask_order_nearby(const struct call *call) {
+    const int64_t prices[] = {call->price - 1, call->price + 1, -call->price};
+    struct call near = *call;
+    struct opc_answer second;
+    for (size_t i = 0; i < sizeof prices / sizeof prices[0]; i++) {
+        near.price = prices[i];
+        ask_order(&near, &second);
+    }
+}
+
+static void try_order(const struct call *call) {
+    struct opc_answer second;
+    uint64_t number = ask_order(call, &second);
+    struct opc_answer answer = order_directly(call, false);
     expect_equal(call, "the answer to the order again", &answer, &second, sizeof answer);
     answer = order_inlined(call);
     expect_equal(call, "the answer through structs", &answer, &second, sizeof answer);
     struct call turned = in_another_sequence(call);
     answer = order_inlined(&turned);
     expect_equal(&turned, "the answer in another sequence", &answer, &second, sizeof answer);
+    if (number == OPC_ACCEPTED || number >= OPC_CHECK_PUT) {
+        ask_order_nearby(call);
+    }
 }
 
 static struct opc_answer tallied_directly(const struct call *call, bool last,
@@ -427,19 +448,43 @@ static struct opc_quote_answer quote_directly(const struct call *call, bool last
     return answer;
 }
 
-static void try_quote(const struct call *call) {
+/* Both answers to a quote, counted; gives the number. */
+static uint64_t ask_quote(const struct call *call, struct opc_quote_answer *second) {
     struct opc_quote quote = quote_of(call, call->symbols);
-    struct opc_quote_answer second = second_check_quote(&quote, &call->settings, &call->market);
+    *second = second_check_quote(&quote, &call->settings, &call->market);
     struct opc_quote_answer answer = quote_directly(call, true);
-    expect_equal(call, "the answer to a quote", &answer, &second, sizeof answer);
+    expect_equal(call, "the answer to a quote", &answer, second, sizeof answer);
     count_answer(call, answer.number);
     cancels[answer.cancel % 2]++;
-    answer = quote_directly(call, false);
+    return answer.number;
+}
+
+/* The same quote with one of its prices one more or one less. */
+static void ask_quote_nearby(const struct call *call) {
+    struct call near = *call;
+    struct opc_quote_answer second;
+    uint64_t *prices[] = {&near.bid, &near.offer};
+    for (size_t i = 0; i < 2; i++) {
+        *prices[i] += 1;
+        ask_quote(&near, &second);
+        *prices[i] -= 2;
+        ask_quote(&near, &second);
+        *prices[i] += 1;
+    }
+}
+
+static void try_quote(const struct call *call) {
+    struct opc_quote_answer second;
+    uint64_t number = ask_quote(call, &second);
+    struct opc_quote_answer answer = quote_directly(call, false);
     expect_equal(call, "the answer to the quote again", &answer, &second, sizeof answer);
-    quote.symbol = lend_symbols(call, true);
+    struct opc_quote quote = quote_of(call, lend_symbols(call, true));
     answer = opc_answer_quote(&quote, &call->settings, &call->market);
     expect_kept(call);
     expect_equal(call, "the answer through structs", &answer, &second, sizeof answer);
+    if (number == OPC_ACCEPTED || number >= OPC_CHECK_PUT) {
+        ask_quote_nearby(call);
+    }
 }
 
 /* ---- The fuzzer's own. ---- */
@@ -467,7 +512,7 @@ int LLVMFuzzerTestOneInput(const uint8_t *data, size_t size) {
     struct call call;
     memset(&call, 0, sizeof call);
     call.entry = PICK(&in, entries);
-    bool is_shaped = take(&in) % 2 == 1;
+    bool is_shaped = take(&in) % 4 != 0;
     call.choice = take(&in);
     (is_shaped ? shaped : raw)(&in, &call);
     switch (call.entry) {

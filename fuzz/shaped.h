@@ -417,7 +417,7 @@ static inline int64_t shaped_order_price(struct input *in, const struct call *ca
 }
 
 static inline struct opc_tally shaped_tally(struct input *in) {
-    static const uint64_t sums[] = {0, 3, 1000, 999999, 999999, 999998, 1000000, 1000001};
+    static const uint64_t sums[] = {0, 0, 3, 1000, 65537, 999997, 999998, 999999, 1000000};
     struct opc_tally tally;
     tally.seen = PICK(in, sums);
     tally.refused = tally.seen == 0 ? 0 : take_number(in, 2) % (tally.seen + 1);

@@ -12,8 +12,9 @@ use compare::{
 };
 use std::{ffi::CStr, fs, path::Path};
 
-/// So many cases of each entry are made up.
-const MADE_UP: usize = 500;
+/// So many cases of each entry are made up in the raw form, and so many rounds in the shaped one.
+const RAW_CASES: usize = 100;
+const SHAPED_ROUNDS: usize = 400;
 
 /// As many bytes as the shaped form takes for most calls.
 const SHAPED_BYTES: usize = 120;
@@ -54,7 +55,7 @@ fn all() -> Vec<Vec<u8>> {
     for (_, quoted, _) in examples::quotes_of_000() {
         seeds.push(quote(&quoted));
     }
-    for _ in 0..MADE_UP {
+    for _ in 0..RAW_CASES {
         seeds.push(order(&generate::arrival(&mut random)));
         let kinds = [0; 3].map(|_| random.between(0, 400_000));
         let seen = kinds.iter().sum::<u64>() + random.between(0, 7) / 7;
@@ -64,6 +65,8 @@ fn all() -> Vec<Vec<u8>> {
         let symbol = legs_of(&list_of(&mut random, 1))[0].0;
         seeds.push(read(&symbol));
         seeds.push(write(&osi::read(&symbol).parts));
+    }
+    for _ in 0..SHAPED_ROUNDS {
         for entry in [READ, WRITE, ORDER, ORDER, ORDER, TALLIED, QUOTE, QUOTE] {
             let bytes = random.bytes(SHAPED_BYTES);
             seeds.push([&[entry, SHAPED], &bytes[..]].concat());
