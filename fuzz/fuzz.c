@@ -309,6 +309,17 @@ static struct opc_answer order_inlined(const struct call *call) {
     return answer;
 }
 
+/* opc_write_count, of any number: eight bytes, low byte first, and none beside them. */
+static void try_count(const struct call *call) {
+    uint8_t bytes[OPC_COUNT_LENGTH + 2];
+    uint8_t expected[sizeof bytes];
+    memset(bytes, AROUND, sizeof bytes);
+    memset(expected, AROUND, sizeof expected);
+    opc_write_count(call->price, bytes + 1);
+    memcpy(expected + 1, &call->price, OPC_COUNT_LENGTH); /* x86-64 keeps the low byte first */
+    expect(memcmp(bytes, expected, sizeof bytes) == 0, call, "a count written, of the price");
+}
+
 static void swap_bytes(uint8_t *one, uint8_t *other, size_t len) {
     uint8_t kept[OPC_SYMBOL_LENGTH];
     memcpy(kept, one, len);
@@ -359,6 +370,7 @@ static void ask_order_nearby(const struct call *call) {
 
 static void try_order(const struct call *call) {
     struct opc_answer second;
+    try_count(call);
     uint64_t number = ask_order(call, &second);
     struct opc_answer answer = order_directly(call, false);
     expect_equal(call, "the answer to the order again", &answer, &second, sizeof answer);
