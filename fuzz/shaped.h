@@ -424,12 +424,13 @@ static inline struct opc_tally shaped_tally(struct input *in) {
     tally.accepted = take_number(in, 2) % (tally.seen - tally.refused + 1);
     tally.rejected = tally.seen - tally.refused - tally.accepted;
     uint8_t byte = take(in);
-    if (byte >= 240) {
+    if (byte >= 248) {
+        /* The three come to the same number, but for what no uint64_t holds. */
+        tally.refused += UINT64_C(1) << 63;
+        tally.accepted += UINT64_C(1) << 63;
+    } else if (byte >= 240) {
         uint64_t *numbers[] = {&tally.seen, &tally.refused, &tally.accepted, &tally.rejected};
         *numbers[byte % 4] += take(in) % 2 == 0 ? 1 : UINT64_MAX;
-        /* The three come to the same number, but for what no uint64_t holds. */
-        tally.refused += byte >= 248 ? UINT64_C(1) << 63 : 0;
-        tally.accepted += byte >= 248 ? UINT64_C(1) << 63 : 0;
     }
     return tally;
 }
