@@ -481,11 +481,23 @@ static inline void shaped_quote(struct input *in, struct call *call) {
     }
 }
 
+/* A date as yymmdd, which may not exist: often one around the end of a month. */
+static inline uint64_t shaped_date(struct input *in) {
+    static const uint64_t dates[] = {229,    10229,  40229,  960229, 990229, 228,
+                                     160230, 160431, 161131, 161231, 160100, 161,
+                                     161301, 160132, 101,    991231};
+    uint8_t byte = take(in);
+    if (byte < 144) {
+        return dates[byte % 16];
+    }
+    return take(in) % 100u * 10000 + take(in) % 14u * 100 + take(in) % 33u;
+}
+
 static inline void shaped_read(struct input *in, struct call *call) {
     static const uint64_t strikes[] = {0, 1, 9, 10000, 99999999, 12345678, 90000000, 5000};
     struct pool pool = shaped_pool(in);
     struct shaped_leg leg = shaped_leg(in, &pool);
-    leg.expiry = take(in) % 100u * 10000 + take(in) % 14u * 100 + take(in) % 33u;
+    leg.expiry = shaped_date(in);
     uint8_t byte = take(in);
     leg.strike = byte < 128 ? leg.strike : byte < 192 ? strikes[byte % 8] : take_number(in, 4);
     write_series(call->symbols, pool.root, &leg);
@@ -512,10 +524,12 @@ static inline void shaped_write(struct input *in, struct call *call) {
     for (size_t i = 0; i < sizeof root; i++) {
         call->parts.root = call->parts.root << 8 | root[i];
     }
-    call->parts.year = 1999 + take(in) % 102u;
-    call->parts.month = take(in) % 14u;
-    call->parts.day = take(in) % 33u;
+    uint64_t date = shaped_date(in);
     uint8_t byte = take(in);
+    call->parts.year = (byte < 248 ? 2000u : byte % 2 == 0 ? 1900u : 2100u) + date / 10000;
+    call->parts.month = date / 100 % 100;
+    call->parts.day = date % 100;
+    byte = take(in);
     call->parts.option_type = byte < 120 ? 'C' : byte < 240 ? 'P' : take_number(in, 2);
     byte = take(in);
     call->parts.strike = byte < 128 ? strikes[byte % 8] : take_number(in, 3);
