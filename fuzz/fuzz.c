@@ -144,15 +144,15 @@ static void print_numbers(const char *whose, const uint64_t *numbers, size_t n) 
     fprintf(stderr, "\n");
 }
 
-/* Two structs that hold numbers alone. */
-static void expect_equal(const struct call *call, const char *what, const void *one,
-                         const void *other, size_t size) {
+/* Two structs that hold numbers alone: what was given, and what was expected. */
+static void expect_equal(const struct call *call, const char *what, const void *given,
+                         const void *expected, size_t size) {
     uint64_t numbers[2][SETTINGS];
-    if (memcmp(one, other, size) != 0) {
-        memcpy(numbers[0], one, size);
-        memcpy(numbers[1], other, size);
-        print_numbers("this", numbers[0], size / sizeof(uint64_t));
-        print_numbers("that", numbers[1], size / sizeof(uint64_t));
+    if (memcmp(given, expected, size) != 0) {
+        memcpy(numbers[0], given, size);
+        memcpy(numbers[1], expected, size);
+        print_numbers("given", numbers[0], size / sizeof(uint64_t));
+        print_numbers("expected", numbers[1], size / sizeof(uint64_t));
         expect(false, call, what);
     }
 }
