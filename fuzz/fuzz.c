@@ -420,18 +420,20 @@ static void try_tallied(const struct call *call) {
     struct opc_tally tally = call->tally;
     struct opc_tally second_tally = call->tally;
     for (int i = 0; i < TALLIED_CALLS; i++) {
+        struct call now = *call; /* with the tally as it comes to this call */
+        now.tally = tally;
         struct opc_answer second =
-            second_check_order_tallied(&order, &call->settings, &call->market, &second_tally);
-        struct opc_answer answer = i == TALLIED_CALLS - 1 ? tallied_inlined(call, &tally)
-                                                          : tallied_directly(call, i == 0, &tally);
-        expect_equal(call, "the answer to a tallied order", &answer, &second, sizeof answer);
-        expect_equal(call, "the tally after it", &tally, &second_tally, sizeof tally);
+            second_check_order_tallied(&order, &now.settings, &now.market, &second_tally);
+        struct opc_answer answer = i == TALLIED_CALLS - 1 ? tallied_inlined(&now, &tally)
+                                                          : tallied_directly(&now, i == 0, &tally);
+        expect_equal(&now, "the answer to a tallied order", &answer, &second, sizeof answer);
+        expect_equal(&now, "the tally after it", &tally, &second_tally, sizeof tally);
         if (i == 0) {
-            count_order(call, &answer);
+            count_order(&now, &answer);
         }
         if (answer.number != OPC_BAD_TALLY) {
-            struct opc_answer untallied = order_inlined(call);
-            expect_equal(call, "the answer with and without a tally", &answer, &untallied,
+            struct opc_answer untallied = order_inlined(&now);
+            expect_equal(&now, "the answer with and without a tally", &answer, &untallied,
                          sizeof answer);
         }
     }
