@@ -8,7 +8,7 @@ library=target/staticlib/libunit.a
 # need COMMAND WHAT: ends the script where the command is missing.
 need() {
     if ! command -v "$1" >/dev/null 2>&1; then
-        echo "${0##*/}: '$1' is not on PATH; it is $2" >&2
+        echo "$0: '$1' is not on PATH; it is $2" >&2
         exit 2
     fi
 }
@@ -17,7 +17,7 @@ need() {
 build_library() {
     need rt "the Rattle toolchain, which proves and builds the library"
     mkdir -p target/host
-    echo "${0##*/}: proves and builds the library, minutes where nothing is proved yet" >&2
+    echo "$0: proves and builds the library, minutes where nothing is proved yet" >&2
     rt staticlib unit >target/host/library.log 2>&1 || {
         cat target/host/library.log >&2
         exit 2

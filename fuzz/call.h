@@ -1,0 +1,52 @@
+/* One call of an entry: everything that it is handed. */
+#ifndef CALL_H
+#define CALL_H
+
+#include "input.h"
+#include "option_price_check.h"
+
+#include <stdbool.h>
+
+enum entry { READ_SYMBOL, WRITE_SYMBOL, CHECK_ORDER, CHECK_ORDER_TALLIED, CHECK_QUOTE, ENTRIES };
+
+/* More than 17 legs, and odd lengths beyond. */
+#define MOST_SYMBOL_BYTES 400
+#define MOST_COUNT_BYTES 150
+/* The longest slice for one symbol, and the longest buffer to write in. */
+#define MOST_BYTES_OF_ONE 48
+
+#define SETTINGS 20
+#define MARKET_VALUES 9
+
+struct call {
+    enum entry entry;
+    /* How the call is made: which end of the lent bytes is watched, NULL or not, which legs change
+     * places. It has no part in the answer. */
+    uint8_t choice;
+    uint8_t symbols[MOST_SYMBOL_BYTES]; /* of an order; or the one symbol to read, or of a quote */
+    size_t symbols_len;
+    uint8_t counts[MOST_COUNT_BYTES];
+    size_t counts_len;
+    struct opc_symbol_parts parts;
+    size_t out_len;
+    int64_t price;
+    uint64_t kind;
+    uint64_t stop;
+    uint64_t manual;
+    uint64_t opening;
+    uint64_t bid;
+    uint64_t offer;
+    uint64_t resting;
+    struct opc_settings settings;
+    struct opc_market market;
+    struct opc_tally tally;
+};
+
+_Static_assert(sizeof(struct opc_settings) == SETTINGS * sizeof(uint64_t), "numbers alone");
+_Static_assert(sizeof(struct opc_market) == MARKET_VALUES * sizeof(uint64_t), "numbers alone");
+
+static inline bool is_order(const struct call *call) {
+    return call->entry == CHECK_ORDER || call->entry == CHECK_ORDER_TALLIED;
+}
+
+#endif

@@ -1,0 +1,549 @@
+/*
+ * The fuzzer's harness. Each input becomes one call of one entry, in the raw or the shaped form.
+ * The call is made more than once, from C and through the inline function over structs, with what
+ * is lent under watch; every number of every answer is held to the second implementation's.
+ *
+ * A difference prints the call and aborts, so that libFuzzer keeps the input.
+ */
+#define _DEFAULT_SOURCE
+
+#include "lent.h"
+#include "raw.h"
+#include "second.h"
+#include "shaped.h"
+
+#include <inttypes.h>
+
+#define SEEDS_VARIABLE "FUZZ_SEEDS"
+
+static const char *const entry_names[ENTRIES] = {"opc_read_symbol", "opc_write_symbol",
+                                                 "opc_check_order", "opc_check_order_tallied",
+                                                 "opc_check_quote"};
+
+/* ---- Counting. ---- */
+
+#define NUMBERS 27
+#define PAIRINGS 16
+
+/* One for each question; a question is put in several calls. */
+static uint64_t answers[ENTRIES][NUMBERS];
+static uint64_t calls[ENTRIES];
+static uint64_t classes[3];
+static uint64_t shapes[5];
+static uint64_t pairings[PAIRINGS];
+static uint64_t cancels[2];
+
+static void print_list(const char *what, const uint64_t *times, size_t n) {
+    for (size_t i = 0; i < n; i++) {
+        if (times[i] > 0) {
+            printf("count %s %zu %" PRIu64 "\n", what, i, times[i]);
+        }
+    }
+}
+
+static void print_counts(void) {
+    for (size_t i = 0; i < ENTRIES; i++) {
+        printf("calls %s %" PRIu64 "\n", entry_names[i], calls[i]);
+        print_list(entry_names[i], answers[i], NUMBERS);
+    }
+    print_list("class", classes, sizeof classes / sizeof classes[0]);
+    print_list("shape", shapes, sizeof shapes / sizeof shapes[0]);
+    print_list("pairings", pairings, PAIRINGS);
+    print_list("cancel", cancels, 2);
+    fflush(stdout);
+}
+
+static void count_answer(const struct call *call, uint64_t number) {
+    if (number < NUMBERS) {
+        answers[call->entry][number]++;
+    }
+}
+
+static void count_order(const struct call *call, const struct opc_answer *answer) {
+    count_answer(call, answer->number);
+    bool is_valid = answer->number == 0 || answer->number >= 20;
+    if (is_valid && answer->class_ < 3 && answer->shape < 5 && answer->pairings < PAIRINGS) {
+        classes[answer->class_]++;
+        shapes[answer->shape]++;
+        pairings[answer->pairings]++;
+    }
+}
+
+/* ---- Differences. ---- */
+
+static struct opc_order order_of(const struct call *call, const uint8_t *symbols,
+                                 const uint8_t *counts) {
+    return (struct opc_order){.symbols = symbols,
+                              .symbols_len = call->symbols_len,
+                              .counts = counts,
+                              .counts_len = call->counts_len,
+                              .price = call->price,
+                              .kind = call->kind,
+                              .stop = call->stop,
+                              .manual = call->manual,
+                              .opening = call->opening};
+}
+
+static struct opc_quote quote_of(const struct call *call, const uint8_t *symbol) {
+    return (struct opc_quote){.symbol = symbol,
+                              .symbol_len = call->symbols_len,
+                              .bid = call->bid,
+                              .offer = call->offer,
+                              .resting = call->resting};
+}
+
+static void print_symbol_call(const struct call *call) {
+    const struct opc_symbol_parts *p = &call->parts;
+    if (call->entry == READ_SYMBOL) {
+        fprintf(stderr, "  %zu bytes:", call->symbols_len);
+        for (size_t i = 0; i < call->symbols_len; i++) {
+            uint8_t byte = call->symbols[i];
+            fprintf(stderr, byte >= ' ' && byte < 127 ? "%c" : "\\x%02x", byte);
+        }
+        fprintf(stderr, "\n");
+        return;
+    }
+    fprintf(stderr,
+            "  root %#" PRIx64 ", year %" PRIu64 ", month %" PRIu64 ", day %" PRIu64
+            ", type %" PRIu64 ", strike %" PRIu64 ", into %zu bytes\n",
+            p->root, p->year, p->month, p->day, p->option_type, p->strike, call->out_len);
+}
+
+static void print_call(const struct call *call) {
+    struct opc_order order = order_of(call, call->symbols, call->counts);
+    struct opc_quote quote = quote_of(call, call->symbols);
+    switch (call->entry) {
+    case CHECK_ORDER:
+        second_print_order(&order, &call->settings, &call->market, NULL);
+        break;
+    case CHECK_ORDER_TALLIED:
+        second_print_order(&order, &call->settings, &call->market, &call->tally);
+        break;
+    case CHECK_QUOTE:
+        second_print_quote(&quote, &call->settings, &call->market);
+        break;
+    default:
+        print_symbol_call(call);
+    }
+}
+
+static void expect(bool holds, const struct call *call, const char *what) {
+    if (!holds) {
+        fprintf(stderr, "fuzz: DIFFERENCE in %s: %s\n", entry_names[call->entry], what);
+        print_call(call);
+        print_counts();
+        abort();
+    }
+}
+
+static void print_numbers(const char *whose, const uint64_t *numbers, size_t n) {
+    fprintf(stderr, "  %s:", whose);
+    for (size_t i = 0; i < n; i++) {
+        fprintf(stderr, " %" PRIu64, numbers[i]);
+    }
+    fprintf(stderr, "\n");
+}
+
+/* Two structs that hold numbers alone: what was given, and what was expected. */
+static void expect_equal(const struct call *call, const char *what, const void *given,
+                         const void *expected, size_t size) {
+    uint64_t numbers[2][SETTINGS];
+    if (memcmp(given, expected, size) != 0) {
+        memcpy(numbers[0], given, size);
+        memcpy(numbers[1], expected, size);
+        print_numbers("given", numbers[0], size / sizeof(uint64_t));
+        print_numbers("expected", numbers[1], size / sizeof(uint64_t));
+        expect(false, call, what);
+    }
+}
+
+/* ---- What is lent. ---- */
+
+static struct lent lent_symbols;
+static struct lent lent_counts;
+
+/* What lent numbers hold before a call: two values, so that one which is not set shows. */
+static const uint64_t unset[2] = {UINT64_C(0xdeadbeefdeadbeef), UINT64_C(0x0123456789abcdef)};
+
+static bool is_null(const struct call *call) { return (call->choice & 1) == 1; }
+
+static const uint8_t *lend_symbols(const struct call *call, bool last) {
+    calls[call->entry]++;
+    return lend(&lent_symbols, call->symbols, call->symbols_len, last, is_null(call));
+}
+
+static const uint8_t *lend_counts(const struct call *call, bool last) {
+    return lend(&lent_counts, call->counts, call->counts_len, last, is_null(call));
+}
+
+static void expect_kept(const struct call *call) {
+    bool kept = is_kept(&lent_symbols) && (!is_order(call) || is_kept(&lent_counts));
+    expect(kept, call, "lent bytes, or those around them, were changed");
+}
+
+static void expect_guards(const struct call *call, const struct lent_numbers *lent) {
+    expect(are_guards_kept(lent), call, "a number beside a lent one was changed");
+}
+
+/* ---- Symbols. ---- */
+
+static uint64_t read_directly(const struct call *call, bool last, struct opc_symbol_parts *parts) {
+    struct lent_numbers lent = lend_numbers(unset[last]);
+    uint64_t number = opc_read_symbol(
+        lend_symbols(call, last), call->symbols_len, lent_number(&lent, 0), lent_number(&lent, 1),
+        lent_number(&lent, 2), lent_number(&lent, 3), lent_number(&lent, 4), lent_number(&lent, 5));
+    expect_kept(call);
+    expect_guards(call, &lent);
+    *parts = (struct opc_symbol_parts){.root = *lent_number(&lent, 0),
+                                       .year = *lent_number(&lent, 1),
+                                       .month = *lent_number(&lent, 2),
+                                       .day = *lent_number(&lent, 3),
+                                       .option_type = *lent_number(&lent, 4),
+                                       .strike = *lent_number(&lent, 5)};
+    return number;
+}
+
+static void expect_read(const struct call *call, uint64_t number,
+                        const struct opc_symbol_parts *parts) {
+    struct opc_symbol_parts second;
+    uint64_t second_number = second_read_symbol(call->symbols, call->symbols_len, &second);
+    expect_equal(call, "the number read", &number, &second_number, sizeof number);
+    expect_equal(call, "the parts read", parts, &second, sizeof second);
+}
+
+static void try_read(const struct call *call) {
+    struct opc_symbol_parts parts;
+    uint64_t number = read_directly(call, true, &parts);
+    count_answer(call, number);
+    expect_read(call, number, &parts);
+    expect_read(call, read_directly(call, false, &parts), &parts);
+    memset(&parts, 0x5a, sizeof parts);
+    uint64_t inlined = opc_read_symbol_parts(lend_symbols(call, true), call->symbols_len, &parts);
+    expect_kept(call);
+    expect_read(call, inlined, &parts);
+    if (number == OPC_ACCEPTED) {
+        uint8_t again[OPC_SYMBOL_LENGTH];
+        uint64_t written_number = unset[0];
+        uint64_t len = opc_write_symbol_parts(&parts, again, sizeof again, &written_number);
+        bool same = len == sizeof again && memcmp(again, call->symbols, sizeof again) == 0;
+        expect(same && written_number == OPC_ACCEPTED, call, "written again, not the same bytes");
+    }
+}
+
+/* One call of the writer, held to the second one's bytes, all around the buffer too. */
+static void write_once(const struct call *call, bool last, bool inlined) {
+    const struct opc_symbol_parts *p = &call->parts;
+    uint8_t before[MOST_BYTES_OF_ONE];
+    memset(before, call->choice, sizeof before);
+    calls[call->entry]++;
+    uint8_t *out = lend(&lent_symbols, before, call->out_len, last, is_null(call));
+    struct lent_numbers lent = lend_numbers(unset[last]);
+    uint64_t *number = lent_number(&lent, 0);
+    uint64_t answer[2];
+    answer[0] = inlined ? opc_write_symbol_parts(p, out, call->out_len, number)
+                        : opc_write_symbol(p->root, p->year, p->month, p->day, p->option_type,
+                                           p->strike, out, call->out_len, number);
+    answer[1] = *number;
+    expect_guards(call, &lent);
+    uint64_t second[2];
+    second[0] = second_write_symbol(p, before, call->out_len, &second[1]);
+    expect_equal(call, "the length and number of writing", answer, second, sizeof second);
+    size_t at = last ? WATCHED - call->out_len : 0;
+    memcpy(lent_symbols.copy + at, before, call->out_len);
+    expect(is_kept(&lent_symbols), call, "the bytes written, or those around them");
+    if (inlined) {
+        count_answer(call, answer[1]);
+    }
+}
+
+static void try_write(const struct call *call) {
+    write_once(call, true, false);
+    write_once(call, false, false);
+    write_once(call, true, true);
+    uint8_t symbol[OPC_SYMBOL_LENGTH];
+    uint64_t number;
+    if (opc_write_symbol_parts(&call->parts, symbol, sizeof symbol, &number) != 0) {
+        struct opc_symbol_parts again;
+        uint64_t read = opc_read_symbol_parts(symbol, sizeof symbol, &again);
+        expect(read == OPC_ACCEPTED, call, "what was written is not read");
+        expect_equal(call, "read again, not the same parts", &again, &call->parts, sizeof again);
+    }
+}
+
+/* ---- Orders. ---- */
+
+#define SETTINGS_OF(s)                                                                             \
+    (s).check_20, (s).check_21, (s).check_22, (s).check_23, (s).check_24, (s).check_25,            \
+        (s).check_26, (s).tick_below_3000, (s).tick_from_3000, (s).net_increment,                  \
+        (s).atd_below_1000, (s).atd_to_2999, (s).atd_to_9999, (s).atd_from_10000, (s).percentage,  \
+        (s).preset_minimum, (s).preset_maximum, (s).set_ticks, (s).adjusted, (s).european_index
+#define MARKET_OF(m)                                                                               \
+    (m).phase, (m).open_elsewhere, (m).extended_hours, (m).underlying, (m).nbb, (m).nbo,           \
+        (m).own_bid, (m).own_offer, (m).previous_close
+#define ORDER_OF(call, last)                                                                       \
+    lend_symbols(call, last), (call)->symbols_len, lend_counts(call, last), (call)->counts_len,    \
+        (call)->price, (call)->kind, (call)->stop, (call)->manual, (call)->opening,                \
+        SETTINGS_OF((call)->settings), MARKET_OF((call)->market)
+
+static struct opc_answer answer_of(uint64_t number, struct lent_numbers *lent) {
+    return (struct opc_answer){.number = number,
+                               .class_ = *lent_number(lent, 0),
+                               .shape = *lent_number(lent, 1),
+                               .pairings = *lent_number(lent, 2)};
+}
+
+static struct opc_answer order_directly(const struct call *call, bool last) {
+    struct lent_numbers lent = lend_numbers(unset[last]);
+    uint64_t number = opc_check_order(ORDER_OF(call, last), lent_number(&lent, 0),
+                                      lent_number(&lent, 1), lent_number(&lent, 2));
+    expect_kept(call);
+    expect_guards(call, &lent);
+    return answer_of(number, &lent);
+}
+
+static struct opc_answer order_inlined(const struct call *call) {
+    bool last = (call->choice & 2) == 2;
+    struct opc_order order = order_of(call, lend_symbols(call, last), lend_counts(call, last));
+    struct opc_answer answer = opc_answer_order(&order, &call->settings, &call->market);
+    expect_kept(call);
+    return answer;
+}
+
+/* opc_write_count, of any number: eight bytes, low byte first, and none beside them. */
+static void try_count(const struct call *call) {
+    uint8_t bytes[OPC_COUNT_LENGTH + 2];
+    uint8_t expected[sizeof bytes];
+    memset(bytes, AROUND, sizeof bytes);
+    memset(expected, AROUND, sizeof expected);
+    opc_write_count(call->price, bytes + 1);
+    memcpy(expected + 1, &call->price, OPC_COUNT_LENGTH); /* x86-64 keeps the low byte first */
+    expect(memcmp(bytes, expected, sizeof bytes) == 0, call, "a count written, of the price");
+}
+
+static void swap_bytes(uint8_t *one, uint8_t *other, size_t len) {
+    uint8_t kept[OPC_SYMBOL_LENGTH];
+    memcpy(kept, one, len);
+    memmove(one, other, len);
+    memcpy(other, kept, len);
+}
+
+/* Whole legs change places, where the slices divide into legs. */
+static struct call in_another_sequence(const struct call *call) {
+    struct call turned = *call;
+    size_t n = call->counts_len / OPC_COUNT_LENGTH;
+    bool whole = call->counts_len % OPC_COUNT_LENGTH == 0;
+    if (!whole || call->symbols_len != n * OPC_SYMBOL_LENGTH) {
+        return turned;
+    }
+    uint32_t state = call->choice;
+    for (size_t i = n; i > 1; i--) {
+        state = state * 1664525 + 1013904223;
+        size_t other = (state >> 16) % i;
+        swap_bytes(turned.symbols + (i - 1) * OPC_SYMBOL_LENGTH,
+                   turned.symbols + other * OPC_SYMBOL_LENGTH, OPC_SYMBOL_LENGTH);
+        swap_bytes(turned.counts + (i - 1) * OPC_COUNT_LENGTH,
+                   turned.counts + other * OPC_COUNT_LENGTH, OPC_COUNT_LENGTH);
+    }
+    return turned;
+}
+
+/* Both answers to an order, counted; gives the number. */
+static uint64_t ask_order(const struct call *call, struct opc_answer *second) {
+    struct opc_order order = order_of(call, call->symbols, call->counts);
+    *second = second_check_order(&order, &call->settings, &call->market);
+    struct opc_answer answer = order_directly(call, true);
+    expect_equal(call, "the answer to an order", &answer, second, sizeof answer);
+    count_order(call, &answer);
+    return answer.number;
+}
+
+/* The same order at the prices next to its own, and for the opposite amount. */
+static void ask_order_nearby(const struct call *call) {
+    const int64_t prices[] = {call->price - 1, call->price + 1, -call->price};
+    struct call near = *call;
+    struct opc_answer second;
+    for (size_t i = 0; i < sizeof prices / sizeof prices[0]; i++) {
+        near.price = prices[i];
+        ask_order(&near, &second);
+    }
+}
+
+static void try_order(const struct call *call) {
+    struct opc_answer second;
+    try_count(call);
+    uint64_t number = ask_order(call, &second);
+    struct opc_answer answer = order_directly(call, false);
+    expect_equal(call, "the answer to the order again", &answer, &second, sizeof answer);
+    answer = order_inlined(call);
+    expect_equal(call, "the answer through structs", &answer, &second, sizeof answer);
+    struct call turned = in_another_sequence(call);
+    answer = order_inlined(&turned);
+    expect_equal(&turned, "the answer in another sequence", &answer, &second, sizeof answer);
+    if (number == OPC_ACCEPTED || number >= OPC_CHECK_PUT) {
+        ask_order_nearby(call);
+    }
+}
+
+static struct opc_answer tallied_directly(const struct call *call, bool last,
+                                          struct opc_tally *tally) {
+    struct lent_numbers lent = lend_numbers(unset[last]);
+    *lent_number(&lent, 3) = tally->seen;
+    *lent_number(&lent, 4) = tally->refused;
+    *lent_number(&lent, 5) = tally->accepted;
+    *lent_number(&lent, 6) = tally->rejected;
+    uint64_t number = opc_check_order_tallied(
+        ORDER_OF(call, last), lent_number(&lent, 0), lent_number(&lent, 1), lent_number(&lent, 2),
+        lent_number(&lent, 3), lent_number(&lent, 4), lent_number(&lent, 5), lent_number(&lent, 6));
+    expect_kept(call);
+    expect_guards(call, &lent);
+    *tally = (struct opc_tally){.seen = *lent_number(&lent, 3),
+                                .refused = *lent_number(&lent, 4),
+                                .accepted = *lent_number(&lent, 5),
+                                .rejected = *lent_number(&lent, 6)};
+    return answer_of(number, &lent);
+}
+
+static struct opc_answer tallied_inlined(const struct call *call, struct opc_tally *tally) {
+    bool last = (call->choice & 2) == 2;
+    struct opc_order order = order_of(call, lend_symbols(call, last), lend_counts(call, last));
+    struct opc_answer answer =
+        opc_answer_order_tallied(&order, &call->settings, &call->market, tally);
+    expect_kept(call);
+    return answer;
+}
+
+/* The number of calls that one tally is lent to, one after another. */
+#define TALLIED_CALLS 3
+
+static void try_tallied(const struct call *call) {
+    struct opc_order order = order_of(call, call->symbols, call->counts);
+    struct opc_tally tally = call->tally;
+    struct opc_tally second_tally = call->tally;
+    for (int i = 0; i < TALLIED_CALLS; i++) {
+        struct call now = *call; /* with the tally as it comes to this call */
+        now.tally = tally;
+        struct opc_answer second =
+            second_check_order_tallied(&order, &now.settings, &now.market, &second_tally);
+        struct opc_answer answer = i == TALLIED_CALLS - 1 ? tallied_inlined(&now, &tally)
+                                                          : tallied_directly(&now, i == 0, &tally);
+        expect_equal(&now, "the answer to a tallied order", &answer, &second, sizeof answer);
+        expect_equal(&now, "the tally after it", &tally, &second_tally, sizeof tally);
+        if (i == 0) {
+            count_order(&now, &answer);
+        }
+        if (answer.number != OPC_BAD_TALLY) {
+            struct opc_answer untallied = order_inlined(&now);
+            expect_equal(&now, "the answer with and without a tally", &answer, &untallied,
+                         sizeof answer);
+        }
+    }
+    struct call turned = in_another_sequence(call);
+    tally = call->tally;
+    second_tally = call->tally;
+    struct opc_answer answer = tallied_inlined(&turned, &tally);
+    struct opc_answer second =
+        second_check_order_tallied(&order, &call->settings, &call->market, &second_tally);
+    expect_equal(&turned, "the tallied answer in another sequence", &answer, &second,
+                 sizeof answer);
+    expect_equal(&turned, "the tally in another sequence", &tally, &second_tally, sizeof tally);
+}
+
+/* ---- Quotes. ---- */
+
+static struct opc_quote_answer quote_directly(const struct call *call, bool last) {
+    struct lent_numbers lent = lend_numbers(unset[last]);
+    struct opc_quote_answer answer;
+    answer.number = opc_check_quote(lend_symbols(call, last), call->symbols_len, call->bid,
+                                    call->offer, call->resting, SETTINGS_OF(call->settings),
+                                    MARKET_OF(call->market), lent_number(&lent, 0));
+    answer.cancel = *lent_number(&lent, 0);
+    expect_kept(call);
+    expect_guards(call, &lent);
+    return answer;
+}
+
+/* Both answers to a quote, counted; gives the number. */
+static uint64_t ask_quote(const struct call *call, struct opc_quote_answer *second) {
+    struct opc_quote quote = quote_of(call, call->symbols);
+    *second = second_check_quote(&quote, &call->settings, &call->market);
+    struct opc_quote_answer answer = quote_directly(call, true);
+    expect_equal(call, "the answer to a quote", &answer, second, sizeof answer);
+    count_answer(call, answer.number);
+    cancels[answer.cancel % 2]++;
+    return answer.number;
+}
+
+/* The same quote with one of its prices one more or one less. */
+static void ask_quote_nearby(const struct call *call) {
+    struct call near = *call;
+    struct opc_quote_answer second;
+    uint64_t *prices[] = {&near.bid, &near.offer};
+    for (size_t i = 0; i < 2; i++) {
+        *prices[i] += 1;
+        ask_quote(&near, &second);
+        *prices[i] -= 2;
+        ask_quote(&near, &second);
+        *prices[i] += 1;
+    }
+}
+
+static void try_quote(const struct call *call) {
+    struct opc_quote_answer second;
+    uint64_t number = ask_quote(call, &second);
+    struct opc_quote_answer answer = quote_directly(call, false);
+    expect_equal(call, "the answer to the quote again", &answer, &second, sizeof answer);
+    struct opc_quote quote = quote_of(call, lend_symbols(call, true));
+    answer = opc_answer_quote(&quote, &call->settings, &call->market);
+    expect_kept(call);
+    expect_equal(call, "the answer through structs", &answer, &second, sizeof answer);
+    if (number == OPC_ACCEPTED || number >= OPC_CHECK_PUT) {
+        ask_quote_nearby(call);
+    }
+}
+
+/* ---- The fuzzer's own. ---- */
+
+int LLVMFuzzerInitialize(int *argc, char ***argv);
+int LLVMFuzzerTestOneInput(const uint8_t *data, size_t size);
+
+int LLVMFuzzerInitialize(int *argc, char ***argv) {
+    (void)argc;
+    (void)argv;
+    const char *folder = getenv(SEEDS_VARIABLE);
+    if (folder != NULL) {
+        second_write_seeds(folder);
+        exit(0);
+    }
+    atexit(print_counts);
+    return 0;
+}
+
+int LLVMFuzzerTestOneInput(const uint8_t *data, size_t size) {
+    static const enum entry entries[] = {READ_SYMBOL, WRITE_SYMBOL, CHECK_ORDER,
+                                         CHECK_ORDER, CHECK_ORDER,  CHECK_ORDER_TALLIED,
+                                         CHECK_QUOTE, CHECK_QUOTE};
+    struct input in = {data, size};
+    struct call call;
+    memset(&call, 0, sizeof call);
+    call.entry = PICK(&in, entries);
+    bool is_shaped = take(&in) % 4 != 0;
+    call.choice = take(&in);
+    (is_shaped ? shaped : raw)(&in, &call);
+    switch (call.entry) {
+    case READ_SYMBOL:
+        try_read(&call);
+        break;
+    case WRITE_SYMBOL:
+        try_write(&call);
+        break;
+    case CHECK_QUOTE:
+        try_quote(&call);
+        break;
+    case CHECK_ORDER:
+        try_order(&call);
+        break;
+    default:
+        try_tallied(&call);
+    }
+    return 0;
+}

@@ -1,0 +1,89 @@
+/*
+ * What is lent to an entry, under watch. The library's own code is not instrumented, so the
+ * sanitizers do not see what it reads or writes: lent bytes lie against a page that may not be
+ * touched, and everything around them is held to a copy afterwards.
+ *
+ * Who includes this defines _DEFAULT_SOURCE first, for mmap and its anonymous pages.
+ */
+#ifndef LENT_H
+#define LENT_H
+
+#include <stdbool.h>
+#include <stdint.h>
+#include <stdio.h>
+#include <stdlib.h>
+#include <string.h>
+#include <sys/mman.h>
+#include <unistd.h>
+
+/* More than the longest slice; a page is longer. */
+#define WATCHED 512
+#define AROUND 0xa5
+
+/* A page between two that may not be touched. */
+struct lent {
+    uint8_t *page;
+    size_t size;
+    uint8_t *watched; /* the end of the page that the bytes lie at */
+    uint8_t copy[WATCHED];
+};
+
+static inline void make_page(struct lent *lent) {
+    size_t page = (size_t)sysconf(_SC_PAGESIZE);
+    uint8_t *pages = mmap(NULL, 3 * page, PROT_NONE, MAP_PRIVATE | MAP_ANONYMOUS, -1, 0);
+    if (pages == MAP_FAILED || mprotect(pages + page, page, PROT_READ | PROT_WRITE) != 0) {
+        perror("fuzz: a page to lend");
+        exit(2);
+    }
+    lent->page = pages + page;
+    lent->size = page;
+}
+
+/* Lends the bytes at the first or the last place of the page; NULL for none, where asked. */
+static inline uint8_t *lend(struct lent *lent, const uint8_t *bytes, size_t len, bool last,
+                            bool null) {
+    if (lent->page == NULL) {
+        make_page(lent);
+    }
+    size_t before = last ? WATCHED - len : 0;
+    memset(lent->copy, AROUND, WATCHED);
+    memcpy(lent->copy + before, bytes, len);
+    lent->watched = last ? lent->page + lent->size - WATCHED : lent->page;
+    memcpy(lent->watched, lent->copy, WATCHED);
+    return len == 0 && null ? NULL : lent->watched + before;
+}
+
+static inline bool is_kept(const struct lent *lent) {
+    return memcmp(lent->watched, lent->copy, WATCHED) == 0;
+}
+
+/* Lent numbers, each between two that must keep their values. */
+#define MOST_LENT_NUMBERS 7
+
+struct lent_numbers {
+    uint64_t unset; /* what every number holds before the call */
+    uint64_t cells[2 * MOST_LENT_NUMBERS + 1];
+};
+
+static inline struct lent_numbers lend_numbers(uint64_t unset) {
+    struct lent_numbers lent = {.unset = unset};
+    for (size_t i = 0; i < 2 * MOST_LENT_NUMBERS + 1; i++) {
+        lent.cells[i] = unset;
+    }
+    return lent;
+}
+
+static inline uint64_t *lent_number(struct lent_numbers *lent, size_t i) {
+    return &lent->cells[2 * i + 1];
+}
+
+static inline bool are_guards_kept(const struct lent_numbers *lent) {
+    for (size_t i = 0; i < 2 * MOST_LENT_NUMBERS + 1; i += 2) {
+        if (lent->cells[i] != lent->unset) {
+            return false;
+        }
+    }
+    return true;
+}
+
+#endif

@@ -1,0 +1,86 @@
+/*
+ * The raw form: lengths, bytes and numbers straight from the input, so that any value can arrive.
+ * fuzz/second/src/seeds.rs writes this form.
+ */
+#ifndef RAW_H
+#define RAW_H
+
+#include "call.h"
+
+static inline void take_numbers(struct input *in, uint64_t *numbers, size_t n) {
+    for (size_t i = 0; i < n; i++) {
+        numbers[i] = take_number(in, 8);
+    }
+}
+
+static inline void raw_slices(struct input *in, struct call *call) {
+    if (is_order(call)) {
+        call->symbols_len = (size_t)take_number(in, 2) % MOST_SYMBOL_BYTES;
+        call->counts_len = take(in) % MOST_COUNT_BYTES;
+    } else {
+        call->symbols_len = take(in) % MOST_BYTES_OF_ONE;
+        call->counts_len = 0;
+    }
+    take_bytes(in, call->symbols, call->symbols_len);
+    take_bytes(in, call->counts, call->counts_len);
+}
+
+static inline void raw_settings_and_market(struct input *in, struct call *call) {
+    uint64_t numbers[SETTINGS];
+    take_numbers(in, numbers, SETTINGS);
+    memcpy(&call->settings, numbers, sizeof call->settings);
+    take_numbers(in, numbers, MARKET_VALUES);
+    memcpy(&call->market, numbers, sizeof call->market);
+}
+
+static inline void raw_order(struct input *in, struct call *call) {
+    raw_slices(in, call);
+    call->price = (int64_t)take_number(in, 8);
+    call->kind = take_number(in, 8);
+    call->stop = take_number(in, 8);
+    call->manual = take_number(in, 8);
+    call->opening = take_number(in, 8);
+    raw_settings_and_market(in, call);
+    if (call->entry == CHECK_ORDER_TALLIED) {
+        call->tally.seen = take_number(in, 8);
+        call->tally.refused = take_number(in, 8);
+        call->tally.accepted = take_number(in, 8);
+        call->tally.rejected = take_number(in, 8);
+    }
+}
+
+static inline void raw_quote(struct input *in, struct call *call) {
+    raw_slices(in, call);
+    call->bid = take_number(in, 8);
+    call->offer = take_number(in, 8);
+    call->resting = take_number(in, 8);
+    raw_settings_and_market(in, call);
+}
+
+static inline void raw_parts(struct input *in, struct call *call) {
+    call->out_len = take(in) % MOST_BYTES_OF_ONE;
+    call->parts.root = take_number(in, 8);
+    call->parts.year = take_number(in, 8);
+    call->parts.month = take_number(in, 8);
+    call->parts.day = take_number(in, 8);
+    call->parts.option_type = take_number(in, 8);
+    call->parts.strike = take_number(in, 8);
+}
+
+static inline void raw(struct input *in, struct call *call) {
+    switch (call->entry) {
+    case READ_SYMBOL:
+        raw_slices(in, call);
+        break;
+    case WRITE_SYMBOL:
+        raw_parts(in, call);
+        break;
+    case CHECK_QUOTE:
+        raw_quote(in, call);
+        break;
+    default:
+        raw_order(in, call);
+    }
+}
+
+#endif

@@ -1,0 +1,123 @@
+//! Inputs to begin with: in the harness's raw form the papers' examples, and cases made up as for
+//! the comparison; in its shaped form any bytes.
+
+use compare::{
+    arrival::Arrival,
+    examples,
+    generate::{self, legs_of, list_of},
+    osi,
+    quote::Quote,
+    random::{seed, Random},
+    Parts,
+};
+use std::{ffi::CStr, fs, path::Path};
+
+/// So many cases of each entry are made up in the raw form, and so many rounds in the shaped one.
+const RAW_CASES: usize = 100;
+const SHAPED_ROUNDS: usize = 400;
+
+/// As many bytes as the shaped form takes for most calls.
+const SHAPED_BYTES: usize = 120;
+
+/// The second byte of an input: 0 is the raw form. The third chooses how the call is made.
+const SHAPED: u8 = 1;
+
+// The first byte, for each entry.
+const READ: u8 = 0;
+const WRITE: u8 = 1;
+const ORDER: u8 = 2;
+const TALLIED: u8 = 5;
+const QUOTE: u8 = 6;
+
+/// Writes one file for each seed.
+///
+/// # Safety
+/// `folder` ends with a zero byte.
+#[no_mangle]
+pub unsafe extern "C" fn second_write_seeds(folder: *const std::ffi::c_char) {
+    let folder = CStr::from_ptr(folder).to_str().expect("the path is text");
+    let folder = Path::new(folder);
+    for (place, seed) in all().iter().enumerate() {
+        fs::write(folder.join(format!("seed-{place:05}")), seed).expect("a seed is written");
+    }
+}
+
+fn all() -> Vec<Vec<u8>> {
+    let mut random = Random::new(seed());
+    let mut seeds = Vec::new();
+    for example in [examples::of_document_01(), examples::of_filings()]
+        .iter()
+        .flatten()
+    {
+        seeds.push(order(&example.arrival));
+        seeds.push(tallied(&example.arrival, [999_999, 0, 999_999, 0]));
+    }
+    for (_, quoted, _) in examples::quotes_of_000() {
+        seeds.push(quote(&quoted));
+    }
+    for _ in 0..RAW_CASES {
+        seeds.push(order(&generate::arrival(&mut random)));
+        let kinds = [0; 3].map(|_| random.between(0, 400_000));
+        let seen = kinds.iter().sum::<u64>() + random.between(0, 7) / 7;
+        let tally = [seen, kinds[0], kinds[1], kinds[2]];
+        seeds.push(tallied(&generate::arrival(&mut random), tally));
+        seeds.push(quote(&generate::quote(&mut random)));
+        let symbol = legs_of(&list_of(&mut random, 1))[0].0;
+        seeds.push(read(&symbol));
+        seeds.push(write(&osi::read(&symbol).parts));
+    }
+    for _ in 0..SHAPED_ROUNDS {
+        for entry in [READ, WRITE, ORDER, ORDER, ORDER, TALLIED, QUOTE, QUOTE] {
+            let bytes = random.bytes(SHAPED_BYTES);
+            seeds.push([&[entry, SHAPED], &bytes[..]].concat());
+        }
+    }
+    seeds
+}
+
+fn numbers(seed: &mut Vec<u8>, numbers: &[u64]) {
+    seed.extend(numbers.iter().flat_map(|number| number.to_le_bytes()));
+}
+
+fn order(arrival: &Arrival) -> Vec<u8> {
+    let [symbols, counts] = [&arrival.symbols, &arrival.counts].map(Vec::as_slice);
+    let [low, high] = (symbols.len() as u16).to_le_bytes();
+    let mut seed = vec![ORDER, 0, 0, low, high, counts.len() as u8];
+    seed.extend([symbols, counts].concat());
+    seed.extend(arrival.price.to_le_bytes());
+    let flags = [arrival.kind, arrival.stop, arrival.manual, arrival.opening];
+    numbers(&mut seed, &flags);
+    numbers(&mut seed, &arrival.settings.numbers());
+    numbers(&mut seed, &arrival.market.numbers());
+    seed
+}
+
+fn tallied(arrival: &Arrival, tally: [u64; 4]) -> Vec<u8> {
+    let mut seed = order(arrival);
+    seed[0] = TALLIED;
+    numbers(&mut seed, &tally);
+    seed
+}
+
+fn quote(quote: &Quote) -> Vec<u8> {
+    let mut seed = vec![QUOTE, 0, 0, quote.symbol.len() as u8];
+    seed.extend(&quote.symbol);
+    numbers(&mut seed, &[quote.bid, quote.offer, quote.resting]);
+    numbers(&mut seed, &quote.settings.numbers());
+    numbers(&mut seed, &quote.market.numbers());
+    seed
+}
+
+fn read(symbol: &[u8]) -> Vec<u8> {
+    let mut seed = vec![READ, 0, 0, symbol.len() as u8];
+    seed.extend(symbol);
+    seed
+}
+
+fn write(parts: &Parts) -> Vec<u8> {
+    let mut seed = vec![WRITE, 0, 0, 21];
+    let date = [parts.root, parts.year, parts.month, parts.day];
+    numbers(&mut seed, &date);
+    numbers(&mut seed, &[parts.option_type, parts.strike]);
+    seed
+}
