@@ -1,7 +1,7 @@
 -- The definitions of the quote check, case by case.
 use mathlib.Core.Path.{_≡_, refl, sym, ap, _∙_}
-use mathlib.Core.List.{List}
-use mathlib.Core.Bool.{Bool, true, false, _&&_}
+use mathlib.Core.List.{List, [], _∷_}
+use mathlib.Core.Bool.{Bool, _&&_}
 use Prim.Native.Nat.{ℕ, zero, suc}
 use Rattle.rules.specs.declared.Mills.{Mills}
 use Rattle.rules.specs.declared.Series.{Series}
@@ -11,6 +11,7 @@ use Rattle.rules.specs.declared.QuoteAnswer.{QuoteAnswer}
 use Rattle.rules.specs.Symbol.{partsOf}
 use Rattle.rules.specs.Order.{isYes, seriesOf}
 use Rattle.rules.specs.Checks.{putTest, callTest}
+use Rattle.rules.specs.Numbers.{firstOf}
 use Rattle.rules.specs.Quote.{quoteInversion, quoteRefusal, quoteRejection, answeredQuote, quoteOutcome, checkQuote}
 
 -- ---- the first check that applies
