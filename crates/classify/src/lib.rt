@@ -1,10 +1,10 @@
 // Class, shape and pairings of an order's legs.
 use class::class_of;
-use legs::sequence::by_strike;
-use legs::units::units;
 use pairing::both_walks;
 use rules::Legs;
+use sequence::by_strike;
 use shape::shape_of;
+use units::units;
 ghost use Rattle.classify.specs.Legs.{Valid, IsClassified};
 
 pub struct Classified {

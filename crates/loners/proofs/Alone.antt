@@ -10,7 +10,7 @@ use Rattle.rules.specs.Order.{noLeg}
 use Rattle.walk.specs.declared.PairTally.{PairTally}
 use Rattle.walk.specs.Tags.{legAt, legsFrom}
 use Rattle.walk.proofs.Zip.{zip-length, zip-at}
-use Rattle.walk.proofs.Walking.{step, end}
+use Rattle.loops.proofs.Finding.{step, over}
 use Rattle.loners.specs.Tallies.{aloneWith, aloneAt, allAlone}
 
 module _ (root : ℕ) (second : Bool) (tags left : List ℕ) (t : length tags ≡ 16) (l : length left ≡ 16) (n : ℕ) (fits : n ≤ 16) where
@@ -25,7 +25,7 @@ module _ (root : ℕ) (second : Bool) (tags left : List ℕ) (t : length tags �
   alone-turn r r′ i h e =
       let is : getD legs i noLeg ≡ legAt root second (getD tags i 0) (getD left i 0) = zip-at (legAt root second) tags left i 0 0 noLeg (omega arith) (omega arith) in
       ap (λ (x : PairTally). allAlone x (drop (i + 1) (take n legs))) (e ∙ ap (λ (x : Leg). aloneWith r (x .bought) (x .size)) (sym is))
-      ∙ sym (ap (allAlone r) (step legs n full fits i h))
+      ∙ sym (ap (allAlone r) (step noLeg legs n (omega (arith, full)) i h))
 
   pub alone-end : (r : PairTally) (i : ℕ) → i ≡ n → allAlone r (drop i (take n legs)) ≡ r
-  alone-end r i e = ap (λ (k : ℕ). allAlone r (drop k (take n legs))) e ∙ ap (allAlone r) (end legs n full fits)
+  alone-end r i e = ap (λ (k : ℕ). allAlone r (drop k (take n legs))) e ∙ ap (allAlone r) (over noLeg legs n (omega (arith, full)) n (omega arith))

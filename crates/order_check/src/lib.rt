@@ -1,7 +1,7 @@
 // The order check.
 use judge::judge;
-use order::slices::are_whole;
-use order::slices::order_of;
+use order::are_whole;
+use order::order_of;
 use rules::Market;
 use rules::Order;
 use rules::OrderAnswer;

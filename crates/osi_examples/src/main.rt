@@ -26,7 +26,7 @@ fn show(parts: SymbolParts) {
     io::write_all(STDOUT_FILENO, b"|");
     let part = writer::write(parts, &mut buffer, &mut number);
     io::write_all(STDOUT_FILENO, part);
-    let back = symbol::reader::read(part);
+    let back = symbol::read(part);
     io::write_all(STDOUT_FILENO, b"| ");
     io::print_decimal(STDOUT_FILENO, number);
     io::write_all(STDOUT_FILENO, b" read ");

@@ -6,8 +6,8 @@ use loners::class_of;
 use loners::joined;
 use loners::loners;
 use rules::Legs;
-use tags::first::sizes;
-use tags::first::tags;
+use tags::sizes;
+use tags::tags;
 use walk::walk;
 ghost use Rattle.pairing.specs.Both.{Walkable, BothWalks};
 

@@ -1,5 +1,5 @@
 // The bytes of a symbol, from its parts.
-use numeral::digits::byte_of;
+use digits::byte_of;
 use roots::root_bytes;
 use rules::SymbolParts;
 ghost use mathlib.Core.Path.{_≡_};

@@ -17,7 +17,7 @@ pub extern "C" fn opc_read_symbol(
 ) -> u64
     ensures { λ r. ⌜ record { number = r; parts = record { root = now (root .exit); year = now (year .exit); month = now (month .exit); day = now (day .exit); right = now («option_type» .exit); strike = record { 0 = now (strike .exit) } } } ≡ readSymbol (now (symbol .entry)) ⌝ }
 {
-    let answer = symbol::reader::read(symbol);
+    let answer = symbol::read(symbol);
     *root = answer.parts.root;
     *year = answer.parts.year;
     *month = answer.parts.month;

@@ -5,12 +5,13 @@ use mathlib.Core.Bool.{Bool}
 use Prim.Native.Nat.{ℕ, suc, _+_, _-_, _<_, _≤_}
 use native.Mathlib.Omega.{arith}
 use native.Mathlib.Numerals.{add-one}
-use lib.ListN.{length, take, drop, getD, set, drop-of-length-le, List·getD-append}
-use lib.Seq.{drop-cons, getD-take, length-take-le, take-suc, take-suc-set, take-set-lt, drop-set-lt, append-snoc, set-at, drop-at, take-take, take-append-le}
+use lib.ListN.{length, take, drop, getD, set, List·getD-append}
+use lib.Seq.{getD-take, length-take-le, take-suc, take-suc-set, take-set-lt, drop-set-lt, append-snoc, set-at, drop-at, take-take, take-append-le}
 use Rattle.rules.specs.declared.Series.{Series}
 use Rattle.rules.specs.declared.Leg.{Leg}
 use Rattle.rules.specs.Pairing.{Pair, Reached, Walked, less, pairOf, matched, reach, walk}
 use Rattle.rules.specs.Order.{noLeg}
+use Rattle.loops.proofs.Finding as finding
 use Rattle.walk.specs.declared.PairTally.{PairTally}
 use Rattle.walk.specs.Tags.{none, noted}
 
@@ -36,26 +37,15 @@ reach-cons same x y ys m e =
     ap (λ (k : ℕ). let r = reach same (less x k) ys in record { pairs = pairOf x y k ++ r .pairs; leg = r .leg; legs = less y k ∷ r .legs }) (sym e)
 
 module _ (legs : List Leg) (n : ℕ) (full : length legs ≡ 16) (fits : n ≤ 16) where
-  legs-length : length (take n legs) ≡ n
-  legs-length = length-take-le n legs (omega arith)
-
-  pub step : (i : ℕ) → i < n → drop i (take n legs) ≡ getD legs i noLeg ∷ drop (i + 1) (take n legs)
-  step i h =
-      let l : i < length (take n legs) = omega (arith, legs-length) in
-      rw (add-one, drop-cons (take n legs) i noLeg l, getD-take n legs i noLeg h)
-
-  pub end : drop n (take n legs) ≡ []
-  end = let h : length (take n legs) ≤ n = omega (arith, legs-length) in drop-of-length-le (take n legs) {i = n} h
-
   module _ (same : Series → Series → Bool) where
     -- nothing is walked yet
     pub start-legs : take n legs ≡ take n legs ++ walk same (drop n (take n legs)) .legs
     unfolding walk
-    start-legs = rw end (sym (append-nil (take n legs)))
+    start-legs = rw (finding.over noLeg legs n (omega arith) n (omega arith)) (sym (append-nil (take n legs)))
 
     pub start-tally : none ≡ noted none (walk same (drop n (take n legs)) .pairs)
     unfolding walk
-    start-tally = rw end
+    start-tally = rw (finding.over noLeg legs n (omega arith) n (omega arith))
 
     -- one turn of the inner loop: the leg at `j` is met
     pub met : (t t′ : PairTally) (x x′ z : Leg) (j m : ℕ) → j < n → let y = getD legs j noLeg in
@@ -67,13 +57,13 @@ module _ (legs : List Leg) (n : ℕ) (full : length legs ≡ 16) (fits : n ≤ 1
         let k : j < suc j = omega arith in
         let y = getD legs j noLeg in
         let q = reach same (less x m) (drop (suc j) (take n legs)) in
-        rw (step j h, add-one, reach-cons same x y (drop (suc j) (take n legs)) m em, et, ex, take-set-lt n legs j z h, drop-set-lt (suc j) (take n legs) j z k, take-suc-set legs j z l, ez)
+        rw (finding.step noLeg legs n (omega arith) j h, add-one, reach-cons same x y (drop (suc j) (take n legs)) m em, et, ex, take-set-lt n legs j z h, drop-set-lt (suc j) (take n legs) j z k, take-suc-set legs j z l, ez)
         (λ i. record { tally = sym (noted-append t (pairOf x y m) (q .pairs)) i; leg = q .leg; legs = append-snoc (take j legs) (less y m) (q .legs) i })
 
     -- past the last leg
     pub over : (t : PairTally) (x : Leg) (j : ℕ) → j ≡ n → view t (take j legs) (reach same x (drop j (take n legs))) ≡ record { tally = t; leg = x; legs = take n legs }
     unfolding reach
-    over t x j e = rw (e, end, append-nil (take n legs))
+    over t x j e = rw (e, finding.over noLeg legs n (omega arith) n (omega arith), append-nil (take n legs))
 
 -- the leg reached is put back at its place
 pub put : (legs l : List Leg) (n : ℕ) (x z : Leg) (rest : List Leg) (i : ℕ) → i < n → i < length l → x ≡ z → take n legs ≡ take (i + 1) l ++ rest → take n (set legs i x) ≡ take i l ++ (z ∷ rest)
@@ -119,8 +109,8 @@ module _ (same : Series → Series → Bool) (legs now : List Leg) (n : ℕ) (fu
 
     pub walked-legs : take i now ++ (met-there .leg ∷ met-there .legs) ≡ take i legs ++ walk same (drop i (take n legs)) .legs
     unfolding walk
-    walked-legs = rw (there, before, step legs n full fits i h)
+    walked-legs = rw (there, before, finding.step noLeg legs n (omega arith) i h)
 
     pub walked-tally : (t : PairTally) → t ≡ noted none (behind .pairs) → noted t (met-there .pairs) ≡ noted none (walk same (drop i (take n legs)) .pairs)
     unfolding walk
-    walked-tally t g = rw (there, g, step legs n full fits i h) (sym (noted-append none (behind .pairs) (reach same (getD legs i noLeg) (behind .legs) .pairs)))
+    walked-tally t g = rw (there, g, finding.step noLeg legs n (omega arith) i h) (sym (noted-append none (behind .pairs) (reach same (getD legs i noLeg) (behind .legs) .pairs)))

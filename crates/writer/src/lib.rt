@@ -2,7 +2,7 @@
 use roots::is_root;
 use roots::root_bytes;
 use rules::SymbolParts;
-use symbol::reader::in_limits;
+use symbol::in_limits;
 use symbol_bytes::symbol_of;
 ghost use mathlib.Core.Path.{_≡_};
 ghost use mathlib.Core.List.{_++_};

@@ -1,3 +1,0 @@
-// Legs in the first walk's sequence, and with their unit counts.
-pub mod sequence;
-pub mod units;
