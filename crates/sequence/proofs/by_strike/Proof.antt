@@ -1,7 +1,7 @@
 -- The legs at the places of their sorted keys.
 use mathlib.Core.Path.{_≡_, sym, _∙_}
 use lib.ListN.{length, length-map}
-use Rattle.sequence.proofs.Moved.{sequence-is}
+use Rattle.sequence.proofs.Laws.{sequence-is}
 use borrow.Author.Needs.{needs}
 use Rattle.sequence.proofs.by_strike.Statement.{statement}
 use Rattle.sequence.proofs.by_strike.Tie as tie
