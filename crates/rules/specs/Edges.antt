@@ -14,6 +14,7 @@ use Rattle.rules.specs.declared.Market.{Market}
 use Rattle.rules.specs.declared.OrderAnswer.{OrderAnswer}
 use Rattle.rules.specs.declared.QuoteAnswer.{QuoteAnswer}
 use Rattle.rules.specs.declared.Tally.{Tally}
+use Rattle.rules.specs.Lists.{All, Perm}
 use Rattle.rules.specs.Numerals.{numeral}
 use Rattle.rules.specs.Symbol.{symbolOf, readSymbol, writeSymbol, SymbolWritten}
 use Rattle.rules.specs.Order.{Lent, symbolsOf, countsOf, termsOf}
@@ -22,6 +23,7 @@ use Rattle.rules.specs.Numbers.{checkSlices}
 use Rattle.rules.specs.Quote.{checkQuote}
 use Rattle.rules.specs.Tally.{isBadTally, counted, fresh}
 use Rattle.rules.specs.Examples.{exampleSettings, exampleMarket, bits, calls, puts}
+use Rattle.rules.specs.Demand3.{IsValid, NotRejected}
 
 -- the same list of what is given and of what is expected
 module _ {A : Type 0} where
@@ -556,3 +558,9 @@ pub record Edges : Type 0 where
   pub written : Hold writings
   pub tallied : Hold tallies
   pub broken : Hold badTallies
+
+-- what the words of demand 3 reach: any other sequence, every order that is not refused, each of the five checks
+pub record Reach : Type 0 where
+  pub turned : Perm {A = ℕ} (1 ∷ 2 ∷ 3 ∷ []) (3 ∷ 2 ∷ 1 ∷ [])
+  pub valid : All (λ n. IsValid (answers n 0 0 0)) (0 ∷ 20 ∷ 21 ∷ 22 ∷ 23 ∷ 24 ∷ 25 ∷ [])
+  pub rejected : All (λ n. NotRejected (answers n 0 0 0) → ⊥) (20 ∷ 21 ∷ 22 ∷ 23 ∷ 24 ∷ [])
