@@ -19,7 +19,8 @@ fn symbol_of(root: u64, year: u64, month: u64, day: u64, right: u64, strike: u64
     }
 }
 
-// Writes the parts, prints the part handed back between bars and the number, then what the reader says of it.
+// Writes the parts, prints the part handed back between bars and the number, then what the reader says of it, and the
+// whole buffer, since the writer's contract is silent on the bytes after the part.
 fn show(parts: SymbolParts) {
     let mut buffer = [46u8; 24];
     let mut number: u64 = 99;
@@ -33,6 +34,8 @@ fn show(parts: SymbolParts) {
     io::print_decimal(STDOUT_FILENO, back.number);
     io::write_all(STDOUT_FILENO, b" strike ");
     io::print_decimal(STDOUT_FILENO, back.parts.strike.0);
+    io::write_all(STDOUT_FILENO, b" in ");
+    io::write_all(STDOUT_FILENO, &buffer);
     io::write_all(STDOUT_FILENO, b"\n");
 }
 

@@ -1,15 +1,16 @@
--- A fair table exists, and only the order's series matter.
-use mathlib.Core.Path.{_≡_, refl, ap₂}
+-- Fair tables exist, flat ones and ones that move, and only the order's series matter.
+use mathlib.Core.Path.{_≡_, refl, sym, ap₂, _∙_}
 use mathlib.Core.List.{List, [], _∷_, map}
-use Prim.Native.Nat.{ℕ, _+_, _-_, _*_, _≤_, _<_}
-use native.Mathlib.Nat.{le-refl, add-mul, mul-le-mul-right}
+use mathlib.Core.Bool.{Bool, true, false, cond}
+use Prim.Native.Nat.{ℕ, zero, suc, _+_, _-_, _*_, _≤_, _<_}
+use native.Mathlib.Nat.{le-refl, add-mul, mul-le-mul-left, mul-le-mul-right}
 use native.Mathlib.Omega.{arith}
 use lib.IntN.{ℤ, pos, _+ℤ_, _*ℤ_}
 use Rattle.rules.specs.declared.Series.{Series}
 use Rattle.rules.specs.declared.Leg.{Leg}
 use Rattle.rules.specs.Lists.{All}
 use Rattle.rules.specs.Order.{signed, commonDivisor, divided, units, worthOf, netWorth}
-use Rattle.rules.specs.Fair.{Has, FairExists, FairAgree}
+use Rattle.rules.specs.Fair.{Has, FairExists, FairMoves, FairAgree}
 use Rattle.rules.proofs.Sorting.{all-map}
 use Rattle.rules.proofs.ClassWorth.{has-all}
 
@@ -34,6 +35,81 @@ fair-exists st m legs puts calls = (
     parityMoves = λ c p d q hc hp hd hq cc′ pp e f x y z l. omega arith;
   },
 )
+
+-- what a series is worth at a forward value, by type and strike
+abbrev at : Bool → ℕ → ℕ → ℕ → ℕ
+at c f k n = cond c (f - k) (k - f) + n
+
+least : (c : Bool) (f k n : ℕ) → n ≤ at c f k n
+least c f k n = omega arith
+
+calls-fall : (c d : Bool) (f k l n : ℕ) → c ≡ true → d ≡ true → k < l → at d f l n ≤ at c f k n
+calls-fall c d f k l n e g h = rw (e, g) (omega arith)
+
+calls-move : (c d : Bool) (f k l n : ℕ) → c ≡ true → d ≡ true → k < l → at c f k n ≤ at d f l n + (l - k)
+calls-move c d f k l n e g h = rw (e, g) (omega arith)
+
+puts-rise : (c d : Bool) (f k l n : ℕ) → c ≡ false → d ≡ false → k < l → at c f k n ≤ at d f l n
+puts-rise c d f k l n e g h = rw (e, g) (omega arith)
+
+puts-move : (c d : Bool) (f k l n : ℕ) → c ≡ false → d ≡ false → k < l → at d f l n ≤ at c f k n + (l - k)
+puts-move c d f k l n e g h = rw (e, g) (omega arith)
+
+put-below : (c : Bool) (f k n : ℕ) → c ≡ false → n < f → n < k → at c f k n < k
+put-below c f k n e h g = rw e (omega arith)
+
+-- one type, one strike: no expiry is asked for
+one-strike : (c d : Bool) (f k l n : ℕ) → c ≡ d → k ≡ l → at c f k n ≤ at d f l n
+one-strike c d f k l n e g = rw (e, g) (le-refl _)
+
+-- three points of a line that is bent once: `p` in the middle, `q` on the steep side
+bent : (x y p q r : ℕ) → p ≤ y + r → (0 < p → q ≡ p + x) → (x + y) * p ≤ y * q + x * r
+bent x y zero q r h g = omega arith
+bent x y (suc p) q r h g = rw (g (omega arith)) (omega (arith, mul-le-mul-left x h))
+
+raised : (x y u v w n : ℕ) → (x + y) * u ≤ y * v + x * w → (x + y) * (u + n) ≤ y * (v + n) + x * (w + n)
+raised x y u v w n h = omega (arith, h)
+
+convex-calls : (a m b f n : ℕ) → a < m → m < b → (b - a) * (f - m + n) ≤ (b - m) * (f - a + n) + (m - a) * (f - b + n)
+convex-calls a m b f n h k =
+    let e : b - a ≡ (m - a) + (b - m) = omega arith in
+    rw e (raised (m - a) (b - m) (f - m) (f - a) (f - b) n (bent (m - a) (b - m) (f - m) (f - a) (f - b) (omega arith) (λ z. omega (arith, z))))
+
+convex-puts : (a m b f n : ℕ) → a < m → m < b → (b - a) * (m - f + n) ≤ (b - m) * (a - f + n) + (m - a) * (b - f + n)
+convex-puts a m b f n h k =
+    let e : b - a ≡ (b - m) + (m - a) = omega arith in
+    let g : ((b - m) + (m - a)) * (m - f + n) ≤ (m - a) * (b - f + n) + (b - m) * (a - f + n) = raised (b - m) (m - a) (m - f) (b - f) (a - f) n (bent (b - m) (m - a) (m - f) (b - f) (a - f) (omega arith) (λ z. omega (arith, z))) in
+    rw e (omega (arith, g))
+
+convex-at : (c : Bool) (a m b f n : ℕ) → a < m → m < b → (b - a) * at c f m n ≤ (b - m) * at c f a n + (m - a) * at c f b n
+convex-at true a m b f n h k = convex-calls a m b f n h k
+convex-at false a m b f n h k = convex-puts a m b f n h k
+
+convex : (c d e : Bool) (a m b f n : ℕ) → c ≡ d → d ≡ e → a < m → m < b → (b - a) * at d f m n ≤ (b - m) * at c f a n + (m - a) * at e f b n
+convex c d e a m b f n g j h k = rw (g, j) (convex-at e a m b f n h k)
+
+parity-falls : (c p d q : Bool) (f k i l j n : ℕ) → c ≡ true → p ≡ false → d ≡ true → q ≡ false → k ≡ i → l ≡ j → k < l → at d f l n + at p f i n ≤ at c f k n + at q f j n
+parity-falls c p d q f k i l j n e₁ e₂ e₃ e₄ e₅ e₆ h = rw (e₁, e₂, e₃, e₄) (omega arith)
+
+parity-moves : (c p d q : Bool) (f k i l j n : ℕ) → c ≡ true → p ≡ false → d ≡ true → q ≡ false → k ≡ i → l ≡ j → k < l → at c f k n + at q f j n ≤ at d f l n + at p f i n + (l - k)
+parity-moves c p d q f k i l j n e₁ e₂ e₃ e₄ e₅ e₆ h = rw (e₁, e₂, e₃, e₄) (omega arith)
+
+pub fair-moves : FairMoves
+fair-moves st m legs f n<f puts calls =
+    let n = st .increment .0 in
+    record {
+      atLeast = λ s h. least (s .call) f (s .strike .0) n;
+      callsFall = λ s t hs ht e c l. calls-fall (s .call) (t .call) f (s .strike .0) (t .strike .0) n c (sym (e .0) ∙ c) l;
+      callsMove = λ s t hs ht e c l. calls-move (s .call) (t .call) f (s .strike .0) (t .strike .0) n c (sym (e .0) ∙ c) l;
+      putsRise = λ s t hs ht e c l. puts-rise (s .call) (t .call) f (s .strike .0) (t .strike .0) n c (sym (e .0) ∙ c) l;
+      putsMove = λ s t hs ht e c l. puts-move (s .call) (t .call) f (s .strike .0) (t .strike .0) n c (sym (e .0) ∙ c) l;
+      convex = λ a m′ b ha hm hb e g am mb. convex (a .call) (m′ .call) (b .call) (a .strike .0) (m′ .strike .0) (b .strike .0) f n (e .0) (g .0) am mb;
+      farther = λ eu s t hs ht e l. one-strike (s .call) (t .call) f (s .strike .0) (t .strike .0) n (e .0) (e .1);
+      putBelow = λ s h c. put-below (s .call) f (s .strike .0) n c n<f (puts s h c);
+      callBelow = calls;
+      parityFalls = λ c p d q hc hp hd hq e₁ e₂ e₃ e₄ x y z l. parity-falls (c .call) (p .call) (d .call) (q .call) f (c .strike .0) (p .strike .0) (d .strike .0) (q .strike .0) n e₁ e₂ (sym (e₃ .0) ∙ e₁) (sym (e₄ .0) ∙ e₂) y z l;
+      parityMoves = λ c p d q hc hp hd hq e₁ e₂ e₃ e₄ x y z l. parity-moves (c .call) (p .call) (d .call) (q .call) f (c .strike .0) (p .strike .0) (d .strike .0) (q .strike .0) n e₁ e₂ (sym (e₃ .0) ∙ e₁) (sym (e₄ .0) ∙ e₂) y z l;
+    }
 
 -- net worth looks at the legs' series only
 same-worth : (v w : Series → ℕ) (ls : List Leg) → All (λ l. v (l .series) ≡ w (l .series)) ls → worthOf v ls ≡ worthOf w ls

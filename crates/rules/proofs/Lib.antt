@@ -22,6 +22,7 @@ pub mod Numbering
 pub mod Bounds
 pub mod FairTables
 pub mod Examples
+pub mod Edges
 pub mod Demand1
 pub mod Demand2
 pub mod Demand3

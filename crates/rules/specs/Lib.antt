@@ -14,6 +14,7 @@ pub mod Numbers
 pub mod Quote
 pub mod Tally
 pub mod Examples
+pub mod Edges
 pub mod Demand1
 pub mod Demand2
 pub mod Demand3
