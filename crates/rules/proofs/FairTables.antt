@@ -1,5 +1,5 @@
 -- Fair tables exist, flat ones and ones that move, and only the order's series matter.
-use mathlib.Core.Path.{_≡_, refl, sym, ap₂, _∙_}
+use mathlib.Core.Path.{_≡_, refl, sym, ap, ap₂, _∙_}
 use mathlib.Core.List.{List, [], _∷_, map}
 use mathlib.Core.Bool.{Bool, true, false, cond}
 use Prim.Native.Nat.{ℕ, zero, suc, _+_, _-_, _*_, _≤_, _<_}
@@ -36,31 +36,30 @@ fair-exists st m legs puts calls = (
   },
 )
 
--- what a series is worth at a forward value, by type and strike
+-- what a series is worth at a forward value, by type, strike and carry
 abbrev at : Bool → ℕ → ℕ → ℕ → ℕ
 at c f k n = cond c (f - k) (k - f) + n
 
-least : (c : Bool) (f k n : ℕ) → n ≤ at c f k n
-least c f k n = omega arith
+least : (c : Bool) (f k n i : ℕ) → i ≤ n → i ≤ at c f k n
+least c f k n i h = omega arith
 
-calls-fall : (c d : Bool) (f k l n : ℕ) → c ≡ true → d ≡ true → k < l → at d f l n ≤ at c f k n
-calls-fall c d f k l n e g h = rw (e, g) (omega arith)
+calls-fall : (c d : Bool) (f k l n o : ℕ) → c ≡ true → d ≡ true → n ≡ o → k < l → at d f l o ≤ at c f k n
+calls-fall c d f k l n o e g j h = rw (e, g) (omega arith)
 
-calls-move : (c d : Bool) (f k l n : ℕ) → c ≡ true → d ≡ true → k < l → at c f k n ≤ at d f l n + (l - k)
-calls-move c d f k l n e g h = rw (e, g) (omega arith)
+calls-move : (c d : Bool) (f k l n o : ℕ) → c ≡ true → d ≡ true → n ≡ o → k < l → at c f k n ≤ at d f l o + (l - k)
+calls-move c d f k l n o e g j h = rw (e, g) (omega arith)
 
-puts-rise : (c d : Bool) (f k l n : ℕ) → c ≡ false → d ≡ false → k < l → at c f k n ≤ at d f l n
-puts-rise c d f k l n e g h = rw (e, g) (omega arith)
+puts-rise : (c d : Bool) (f k l n o : ℕ) → c ≡ false → d ≡ false → n ≡ o → k < l → at c f k n ≤ at d f l o
+puts-rise c d f k l n o e g j h = rw (e, g) (omega arith)
 
-puts-move : (c d : Bool) (f k l n : ℕ) → c ≡ false → d ≡ false → k < l → at d f l n ≤ at c f k n + (l - k)
-puts-move c d f k l n e g h = rw (e, g) (omega arith)
+puts-move : (c d : Bool) (f k l n o : ℕ) → c ≡ false → d ≡ false → n ≡ o → k < l → at d f l o ≤ at c f k n + (l - k)
+puts-move c d f k l n o e g j h = rw (e, g) (omega arith)
 
 put-below : (c : Bool) (f k n : ℕ) → c ≡ false → n < f → n < k → at c f k n < k
 put-below c f k n e h g = rw e (omega arith)
 
--- one type, one strike: no expiry is asked for
-one-strike : (c d : Bool) (f k l n : ℕ) → c ≡ d → k ≡ l → at c f k n ≤ at d f l n
-one-strike c d f k l n e g = rw (e, g) (le-refl _)
+one-strike : (c d : Bool) (f k l n o : ℕ) → c ≡ d → k ≡ l → n ≤ o → at c f k n ≤ at d f l o
+one-strike c d f k l n o e g h = rw (e, g) (omega arith)
 
 -- three points of a line that is bent once: `p` in the middle, `q` on the steep side
 bent : (x y p q r : ℕ) → p ≤ y + r → (0 < p → q ≡ p + x) → (x + y) * p ≤ y * q + x * r
@@ -85,30 +84,29 @@ convex-at : (c : Bool) (a m b f n : ℕ) → a < m → m < b → (b - a) * at c 
 convex-at true a m b f n h k = convex-calls a m b f n h k
 convex-at false a m b f n h k = convex-puts a m b f n h k
 
-convex : (c d e : Bool) (a m b f n : ℕ) → c ≡ d → d ≡ e → a < m → m < b → (b - a) * at d f m n ≤ (b - m) * at c f a n + (m - a) * at e f b n
-convex c d e a m b f n g j h k = rw (g, j) (convex-at e a m b f n h k)
+convex : (c d e : Bool) (a m b f n o q : ℕ) → c ≡ d → d ≡ e → n ≡ o → o ≡ q → a < m → m < b → (b - a) * at d f m o ≤ (b - m) * at c f a n + (m - a) * at e f b q
+convex c d e a m b f n o q g j x y h k = rw (g, j, x, y) (convex-at e a m b f q h k)
 
-parity-falls : (c p d q : Bool) (f k i l j n : ℕ) → c ≡ true → p ≡ false → d ≡ true → q ≡ false → k ≡ i → l ≡ j → k < l → at d f l n + at p f i n ≤ at c f k n + at q f j n
-parity-falls c p d q f k i l j n e₁ e₂ e₃ e₄ e₅ e₆ h = rw (e₁, e₂, e₃, e₄) (omega arith)
+parity-falls : (c p d q : Bool) (f k i l j n n₁ n₂ n₃ : ℕ) → c ≡ true → p ≡ false → d ≡ true → q ≡ false → k ≡ i → l ≡ j → n ≡ n₁ → n ≡ n₂ → n₁ ≡ n₃ → k < l → at d f l n₂ + at p f i n₁ ≤ at c f k n + at q f j n₃
+parity-falls c p d q f k i l j n n₁ n₂ n₃ e₁ e₂ e₃ e₄ e₅ e₆ x y z h = rw (e₁, e₂, e₃, e₄) (omega arith)
 
-parity-moves : (c p d q : Bool) (f k i l j n : ℕ) → c ≡ true → p ≡ false → d ≡ true → q ≡ false → k ≡ i → l ≡ j → k < l → at c f k n + at q f j n ≤ at d f l n + at p f i n + (l - k)
-parity-moves c p d q f k i l j n e₁ e₂ e₃ e₄ e₅ e₆ h = rw (e₁, e₂, e₃, e₄) (omega arith)
+parity-moves : (c p d q : Bool) (f k i l j n n₁ n₂ n₃ : ℕ) → c ≡ true → p ≡ false → d ≡ true → q ≡ false → k ≡ i → l ≡ j → n ≡ n₁ → n ≡ n₂ → n₁ ≡ n₃ → k < l → at c f k n + at q f j n₃ ≤ at d f l n₂ + at p f i n₁ + (l - k)
+parity-moves c p d q f k i l j n n₁ n₂ n₃ e₁ e₂ e₃ e₄ e₅ e₆ x y z h = rw (e₁, e₂, e₃, e₄) (omega arith)
 
 pub fair-moves : FairMoves
-fair-moves st m legs f n<f puts calls =
-    let n = st .increment .0 in
+fair-moves st m legs f carry most later puts calls =
     record {
-      atLeast = λ s h. least (s .call) f (s .strike .0) n;
-      callsFall = λ s t hs ht e c l. calls-fall (s .call) (t .call) f (s .strike .0) (t .strike .0) n c (sym (e .0) ∙ c) l;
-      callsMove = λ s t hs ht e c l. calls-move (s .call) (t .call) f (s .strike .0) (t .strike .0) n c (sym (e .0) ∙ c) l;
-      putsRise = λ s t hs ht e c l. puts-rise (s .call) (t .call) f (s .strike .0) (t .strike .0) n c (sym (e .0) ∙ c) l;
-      putsMove = λ s t hs ht e c l. puts-move (s .call) (t .call) f (s .strike .0) (t .strike .0) n c (sym (e .0) ∙ c) l;
-      convex = λ a m′ b ha hm hb e g am mb. convex (a .call) (m′ .call) (b .call) (a .strike .0) (m′ .strike .0) (b .strike .0) f n (e .0) (g .0) am mb;
-      farther = λ eu s t hs ht e l. one-strike (s .call) (t .call) f (s .strike .0) (t .strike .0) n (e .0) (e .1);
-      putBelow = λ s h c. put-below (s .call) f (s .strike .0) n c n<f (puts s h c);
+      atLeast = λ s h. least (s .call) f (s .strike .0) (carry (s .expiry)) (st .increment .0) (most (s .expiry));
+      callsFall = λ s t hs ht e c l. calls-fall (s .call) (t .call) f (s .strike .0) (t .strike .0) (carry (s .expiry)) (carry (t .expiry)) c (sym (e .0) ∙ c) (ap carry (e .1)) l;
+      callsMove = λ s t hs ht e c l. calls-move (s .call) (t .call) f (s .strike .0) (t .strike .0) (carry (s .expiry)) (carry (t .expiry)) c (sym (e .0) ∙ c) (ap carry (e .1)) l;
+      putsRise = λ s t hs ht e c l. puts-rise (s .call) (t .call) f (s .strike .0) (t .strike .0) (carry (s .expiry)) (carry (t .expiry)) c (sym (e .0) ∙ c) (ap carry (e .1)) l;
+      putsMove = λ s t hs ht e c l. puts-move (s .call) (t .call) f (s .strike .0) (t .strike .0) (carry (s .expiry)) (carry (t .expiry)) c (sym (e .0) ∙ c) (ap carry (e .1)) l;
+      convex = λ a m′ b ha hm hb e g am mb. convex (a .call) (m′ .call) (b .call) (a .strike .0) (m′ .strike .0) (b .strike .0) f (carry (a .expiry)) (carry (m′ .expiry)) (carry (b .expiry)) (e .0) (g .0) (ap carry (e .1)) (ap carry (g .1)) am mb;
+      farther = λ eu s t hs ht e l. one-strike (s .call) (t .call) f (s .strike .0) (t .strike .0) (carry (s .expiry)) (carry (t .expiry)) (e .0) (e .1) (later (s .expiry) (t .expiry) l);
+      putBelow = λ s h c. put-below (s .call) f (s .strike .0) (carry (s .expiry)) c (puts s h c .0) (puts s h c .1);
       callBelow = calls;
-      parityFalls = λ c p d q hc hp hd hq e₁ e₂ e₃ e₄ x y z l. parity-falls (c .call) (p .call) (d .call) (q .call) f (c .strike .0) (p .strike .0) (d .strike .0) (q .strike .0) n e₁ e₂ (sym (e₃ .0) ∙ e₁) (sym (e₄ .0) ∙ e₂) y z l;
-      parityMoves = λ c p d q hc hp hd hq e₁ e₂ e₃ e₄ x y z l. parity-moves (c .call) (p .call) (d .call) (q .call) f (c .strike .0) (p .strike .0) (d .strike .0) (q .strike .0) n e₁ e₂ (sym (e₃ .0) ∙ e₁) (sym (e₄ .0) ∙ e₂) y z l;
+      parityFalls = λ c p d q hc hp hd hq e₁ e₂ e₃ e₄ x y z l. parity-falls (c .call) (p .call) (d .call) (q .call) f (c .strike .0) (p .strike .0) (d .strike .0) (q .strike .0) (carry (c .expiry)) (carry (p .expiry)) (carry (d .expiry)) (carry (q .expiry)) e₁ e₂ (sym (e₃ .0) ∙ e₁) (sym (e₄ .0) ∙ e₂) y z (ap carry x) (ap carry (e₃ .1)) (ap carry (e₄ .1)) l;
+      parityMoves = λ c p d q hc hp hd hq e₁ e₂ e₃ e₄ x y z l. parity-moves (c .call) (p .call) (d .call) (q .call) f (c .strike .0) (p .strike .0) (d .strike .0) (q .strike .0) (carry (c .expiry)) (carry (p .expiry)) (carry (d .expiry)) (carry (q .expiry)) e₁ e₂ (sym (e₃ .0) ∙ e₁) (sym (e₄ .0) ∙ e₂) y z (ap carry x) (ap carry (e₃ .1)) (ap carry (e₄ .1)) l;
     }
 
 -- net worth looks at the legs' series only

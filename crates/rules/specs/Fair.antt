@@ -59,17 +59,18 @@ FairExists =
     ((s : Series) → Has legs s → s .call ≡ true → 0 < m .underlying .0 → st .increment .0 < m .underlying .0) →
     (premium : Series → ℕ) × Fair st m legs premium
 
--- A table that moves: a call is worth what a forward value is above its strike, a put what its strike is above that value, and a net increment each. So the conditions leave more than flat tables, and such a table meets some of them exactly.
-abbrev pub intrinsic : ℕ → ℕ → Series → ℕ
-intrinsic forward n s = cond (s .call) (forward - s .strike .0) (s .strike .0 - forward) + n
+-- A table that moves: a call is worth what a forward value is above its strike, a put what its strike is above that value, and either its expiry's carry more. So the conditions leave more than flat tables, and such a table meets some of them exactly.
+abbrev pub intrinsic : ℕ → (ℕ → ℕ) → Series → ℕ
+intrinsic forward carry s = cond (s .call) (forward - s .strike .0) (s .strike .0 - forward) + carry (s .expiry)
 
 abbrev pub FairMoves : Type 0
 FairMoves =
-    (st : Settings) (m : Market) (legs : List Leg) (forward : ℕ) →
-    st .increment .0 < forward →
-    ((s : Series) → Has legs s → s .call ≡ false → st .increment .0 < s .strike .0) →
-    ((s : Series) → Has legs s → s .call ≡ true → 0 < m .underlying .0 → intrinsic forward (st .increment .0) s < m .underlying .0) →
-    Fair st m legs (intrinsic forward (st .increment .0))
+    (st : Settings) (m : Market) (legs : List Leg) (forward : ℕ) (carry : ℕ → ℕ) →
+    ((e : ℕ) → st .increment .0 ≤ carry e) →
+    ((d e : ℕ) → d < e → carry d ≤ carry e) →
+    ((s : Series) → Has legs s → s .call ≡ false → (carry (s .expiry) < forward) × (carry (s .expiry) < s .strike .0)) →
+    ((s : Series) → Has legs s → s .call ≡ true → 0 < m .underlying .0 → intrinsic forward carry s < m .underlying .0) →
+    Fair st m legs (intrinsic forward carry)
 
 -- "and for no other": tables that agree on the order's series are fair together, and give the same net worth
 pub record SameTable (st : Settings) (m : Market) (legs : List Leg) (v w : Series → ℕ) : Type 0 where
