@@ -4,7 +4,14 @@ use Rattle.symbol.proofs.in_limits.Tie as tie
 
 returns : tie.Need-returns
 unfolding inLimits
-returns c = cc
+returns c =
+    rw (
+      c .both2 .ensures,
+      c .before .within .ensures,
+      c .before .before .both .ensures,
+      c .before .before .before .either .ensures,
+      c .before .before .before .before .before .before .day-exists .ensures,
+    )
 
 pub in-limits-spec : {M : Type 1} → statement M
 in-limits-spec =
