@@ -13,8 +13,11 @@ need() {
     fi
 }
 
-# Proves and builds the library.
+# Proves and builds the library, unless one is built that is as new as its sources.
 build_library() {
+    if [ -f "$library" ] && [ -z "$(find crates crates.txt toolchain -newer "$library" | head -n 1)" ]; then
+        return
+    fi
     need rt "the Rattle toolchain, which proves and builds the library"
     mkdir -p target/host
     echo "$0: proves and builds the library, minutes where nothing is proved yet" >&2
