@@ -49,4 +49,7 @@ static inline bool is_order(const struct call *call) {
     return call->entry == CHECK_ORDER || call->entry == CHECK_ORDER_TALLIED;
 }
 
+/* How an input becomes a call of one entry. */
+typedef void form(struct input *in, struct call *call);
+
 #endif

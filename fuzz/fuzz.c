@@ -528,7 +528,7 @@ int LLVMFuzzerTestOneInput(const uint8_t *data, size_t size) {
     call.entry = PICK(&in, entries);
     bool is_shaped = take(&in) % 4 != 0;
     call.choice = take(&in);
-    (is_shaped ? shaped : raw)(&in, &call);
+    (is_shaped ? shaped_forms : raw_forms)[call.entry](&in, &call);
     switch (call.entry) {
     case READ_SYMBOL:
         try_read(&call);

@@ -67,20 +67,9 @@ static inline void raw_parts(struct input *in, struct call *call) {
     call->parts.strike = take_number(in, 8);
 }
 
-static inline void raw(struct input *in, struct call *call) {
-    switch (call->entry) {
-    case READ_SYMBOL:
-        raw_slices(in, call);
-        break;
-    case WRITE_SYMBOL:
-        raw_parts(in, call);
-        break;
-    case CHECK_QUOTE:
-        raw_quote(in, call);
-        break;
-    default:
-        raw_order(in, call);
-    }
-}
+static form *const raw_forms[ENTRIES] = {
+    [READ_SYMBOL] = raw_slices,        [WRITE_SYMBOL] = raw_parts, [CHECK_ORDER] = raw_order,
+    [CHECK_ORDER_TALLIED] = raw_order, [CHECK_QUOTE] = raw_quote,
+};
 
 #endif

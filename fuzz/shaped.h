@@ -456,6 +456,22 @@ static inline void shaped_order(struct input *in, struct call *call) {
     }
 }
 
+/*
+ * The one symbol of the call. The next byte of the input says whether it is whole, or of another
+ * length (from `cut` up), or damaged (from `damaged` up).
+ */
+static inline void shaped_symbol(struct input *in, struct call *call, const struct pool *pool,
+                                 const struct shaped_leg *leg, uint8_t cut, uint8_t damaged) {
+    write_series(call->symbols, pool->root, leg);
+    call->symbols_len = OPC_SYMBOL_LENGTH;
+    uint8_t byte = take(in);
+    if (byte >= damaged) {
+        damage_symbol(in, call->symbols, OPC_SYMBOL_LENGTH);
+    } else if (byte >= cut) {
+        call->symbols_len = take(in) % MOST_BYTES_OF_ONE;
+    }
+}
+
 static inline void shaped_quote(struct input *in, struct call *call) {
     static const int64_t apart[] = {1, 1, 2, 5, 10, 100, 1000, LARGEST_MARKET_VALUE};
     struct pool pool = shaped_pool(in);
@@ -471,14 +487,7 @@ static inline void shaped_quote(struct input *in, struct call *call) {
         call->offer = (uint64_t)shaped_line(in, call, &leg, 1);
     }
     call->resting = shaped_flag(in, 128);
-    write_series(call->symbols, pool.root, &leg);
-    call->symbols_len = OPC_SYMBOL_LENGTH;
-    byte = take(in);
-    if (byte >= 240) {
-        damage_symbol(in, call->symbols, OPC_SYMBOL_LENGTH);
-    } else if (byte >= 232) {
-        call->symbols_len = take(in) % MOST_BYTES_OF_ONE;
-    }
+    shaped_symbol(in, call, &pool, &leg, 232, 240);
 }
 
 /* A date as yymmdd, which may not exist: often one around the end of a month. */
@@ -500,14 +509,7 @@ static inline void shaped_read(struct input *in, struct call *call) {
     leg.expiry = shaped_date(in);
     uint8_t byte = take(in);
     leg.strike = byte < 128 ? leg.strike : byte < 192 ? strikes[byte % 8] : take_number(in, 4);
-    write_series(call->symbols, pool.root, &leg);
-    call->symbols_len = OPC_SYMBOL_LENGTH;
-    byte = take(in);
-    if (byte >= 192) {
-        damage_symbol(in, call->symbols, OPC_SYMBOL_LENGTH);
-    } else if (byte >= 160) {
-        call->symbols_len = take(in) % MOST_BYTES_OF_ONE;
-    }
+    shaped_symbol(in, call, &pool, &leg, 160, 192);
 }
 
 static inline void shaped_write(struct input *in, struct call *call) {
@@ -542,20 +544,10 @@ static inline void shaped_write(struct input *in, struct call *call) {
     call->out_len = PICK(in, lengths);
 }
 
-static inline void shaped(struct input *in, struct call *call) {
-    switch (call->entry) {
-    case READ_SYMBOL:
-        shaped_read(in, call);
-        break;
-    case WRITE_SYMBOL:
-        shaped_write(in, call);
-        break;
-    case CHECK_QUOTE:
-        shaped_quote(in, call);
-        break;
-    default:
-        shaped_order(in, call);
-    }
-}
+static form *const shaped_forms[ENTRIES] = {
+    [READ_SYMBOL] = shaped_read,  [WRITE_SYMBOL] = shaped_write,
+    [CHECK_ORDER] = shaped_order, [CHECK_ORDER_TALLIED] = shaped_order,
+    [CHECK_QUOTE] = shaped_quote,
+};
 
 #endif
