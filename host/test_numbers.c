@@ -136,20 +136,30 @@ static void test_numbers(void) {
     expect(all == numbers_in("0 to 12, 20 to 26 |"), "a number that no entry gives");
 }
 
-/* One order of each shape, T2, T3, T4 and T6 of document 01 among them, and one of each class. */
+/* One order of each shape, and of each class. */
 static void test_shapes_and_classes(void) {
+    static const struct {
+        size_t legs;
+        struct {
+            char option_type;
+            uint64_t strike;
+            int64_t count;
+        } leg[4];
+    } orders[] = {
+        {2, {{'C', 20000, 1}, {'P', 30000, -1}}},
+        {2, {{'C', 20000, 1}, {'C', 30000, -1}}},
+        {2, {{'C', 20000, -1}, {'C', 30000, 1}}},
+        {3, {{'C', 20000, 1}, {'C', 30000, -2}, {'C', 40000, 1}}},
+        {3, {{'C', 20000, 1}, {'C', 30000, -2}, {'C', 45000, 1}}},
+        {4, {{'C', 20000, 1}, {'C', 30000, -1}, {'P', 20000, -1}, {'P', 30000, 1}}},
+    };
     uint64_t shapes = 0, classes = 0;
     tried = "opc_check_order";
-    for (uint64_t i = 0; i < 6; i++) {
+    for (size_t i = 0; i < COUNT(orders); i++) {
         struct made_order m = no_legs();
-        int64_t side = i == 5 ? -1 : 1;
-        add_leg(&m, 270115, 'C', 20000, side);
-        add_leg(&m, 270115, i == 0 ? 'P' : 'C', 30000, i == 2 || i == 3 ? -2 : -side);
-        if (i == 2 || i == 3) {
-            add_leg(&m, 270115, 'C', i == 2 ? 40000 : 45000, 1);
-        } else if (i == 4) {
-            add_leg(&m, 270115, 'P', 20000, -1);
-            add_leg(&m, 270115, 'P', 30000, 1);
+        for (size_t leg = 0; leg < orders[i].legs; leg++) {
+            add_leg(&m, 270115, orders[i].leg[leg].option_type, orders[i].leg[leg].strike,
+                    orders[i].leg[leg].count);
         }
         struct opc_order order = lend(&m);
         struct opc_answer a = opc_answer_order(&order, &m.settings, &m.market);
