@@ -1,4 +1,4 @@
-// Decimal digits in a slice.
+// Decimal digits: tested in a slice, read as numbers, and written.
 use choice::wide;
 ghost use mathlib.Core.Path.{_≡_};
 ghost use mathlib.Core.List.{[], _∷_};

@@ -86,7 +86,7 @@ judged st m t ls =
     let class = classOf us w in
     record { number = rejection st m t us class; class = class; shape = shapeOf us; pairings = length (w .pairs) }
 
--- the numbers of refusals
+-- Number and its author: "1 to 12" are the refusals
 abbrev pub isRefusal : ℕ → Bool
 isRefusal n = within 1 12 n
 
