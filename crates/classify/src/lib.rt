@@ -4,7 +4,7 @@ use pairing::both_walks;
 use rules::Legs;
 use sequence::by_strike;
 use shape::shape_of;
-use units::units;
+use unit_counts::units;
 ghost use Rattle.classify.specs.Legs.{Valid, IsClassified};
 
 pub struct Classified {

@@ -41,8 +41,8 @@ fn allowance(st: Settings, m: u64) -> u64
     requires { ⌜ (settingsHold st ≡ true) × (m ≤ 99999999) ⌝ }
     ensures { λ r. ⌜ (r ≡ allowance st m) × (r ≤ 1000000) ⌝ }
 {
-    let least = st.least.0;
-    let most = st.most.0;
+    let least = st.presetminimum.0;
+    let most = st.presetmaximum.0;
     let share = m * st.percentage / 10000;
     let raised = greater(least, share);
     smaller(most, raised)

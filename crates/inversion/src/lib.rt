@@ -2,7 +2,7 @@
 use choice::both;
 use choice::choose;
 use choice::either;
-use quantity::distance;
+use distance::distance;
 use reference::is_unusable;
 use reference::tick_at;
 use rules::Market;

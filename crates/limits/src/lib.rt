@@ -47,7 +47,7 @@ pub fn settings_hold(st: Settings) -> bool
             four_within(2, 1000, st.atd0.0, st.atd1.0, st.atd2.0, st.atd3.0),
             both(
                 within(0, 10000, st.percentage),
-                presets_hold(st.least.0, st.most.0, st.setticks.0),
+                presets_hold(st.presetminimum.0, st.presetmaximum.0, st.setticks.0),
             ),
         ),
     )
@@ -60,7 +60,7 @@ pub fn market_holds(m: Market) -> bool
         within(0, 2, m.phase),
         both(
             three_within(0, 1000000000, m.underlying.0, m.nbb.0, m.nbo.0),
-            three_within(0, 1000000000, m.bid.0, m.offer.0, m.close.0),
+            three_within(0, 1000000000, m.ownbid.0, m.ownoffer.0, m.close.0),
         ),
     )
 }

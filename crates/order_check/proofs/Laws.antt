@@ -12,7 +12,7 @@ use Rattle.rules.specs.declared.OrderAnswer.{OrderAnswer}
 use Rattle.rules.specs.Order.{rawLegs, recordLegs, legsOf}
 use Rattle.rules.specs.Pairing.{byStrike}
 use Rattle.rules.specs.Numbers.{refusal, judged, refused, outcome, checkLegs, checkOrder, areWhole, checkSlices}
-use Rattle.order.specs.Slices.{Recorded}
+use Rattle.order_record.specs.Slices.{Recorded}
 use Rattle.validity.proofs.Laws.{above, wrong-length}
 
 outcome-none : (n : ℕ) (a : OrderAnswer) → n ≡ 0 → outcome n a ≡ a

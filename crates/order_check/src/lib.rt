@@ -1,7 +1,7 @@
 // The order check.
 use judge::judge;
-use order::are_whole;
-use order::order_of;
+use order_record::are_whole;
+use order_record::order_of;
 use rules::Market;
 use rules::Order;
 use rules::OrderAnswer;

@@ -1,13 +1,13 @@
 // The order of an example as a host lends it, and the order check's answer to it.
-use feed::market_of;
-use feed::settings_of;
+use inputs::market_of;
+use inputs::settings_of;
+use inputs::terms_of;
 use order_check::check_slices;
 use rules::Market;
 use rules::Mills;
 use rules::OrderAnswer;
 use rules::Settings;
 use rules::SymbolParts;
-use terms::terms_of;
 ghost use mathlib.Core.Path.{_≡_};
 ghost use mathlib.Core.Bool.{true, false};
 ghost use Prim.Native.Nat.{_+_, _%_, _^_, _≤_};
@@ -132,32 +132,34 @@ fn settings(european: u64) -> Settings
     ensures { λ r. ⌜ r ≡ exampleSettings european ⌝ }
 {
     settings_of(
-        1,
-        1,
-        1,
-        1,
-        1,
-        1,
-        1,
-        10,
-        10,
-        10,
-        5,
-        5,
-        5,
-        5,
-        300,
-        0,
-        600,
-        4,
-        0,
-        european,
+        &[
+            1,
+            1,
+            1,
+            1,
+            1,
+            1,
+            1,
+            10,
+            10,
+            10,
+            5,
+            5,
+            5,
+            5,
+            300,
+            0,
+            600,
+            4,
+            0,
+            european,
+        ],
     )
 }
 
 // Open, and nothing known but what is given.
 fn market(underlying: u64, nbo: u64) -> Market {
-    market_of(1, 0, 0, underlying, 0, nbo, 0, 0, 0)
+    market_of(&[1, 0, 0, underlying, 0, nbo, 0, 0, 0])
 }
 
 fn european(g: Given) -> u64 {

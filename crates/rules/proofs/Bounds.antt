@@ -28,8 +28,8 @@ pub record SettingsBounds (st : Settings) : Type 0 where
   pub atd2 : st .atd2 .0 ≤ 1000
   pub atd3 : st .atd3 .0 ≤ 1000
   pub percentage : st .percentage ≤ 10000
-  pub least : st .least .0 ≤ 1000000
-  pub most : st .most .0 ≤ 1000000
+  pub presetminimum : st .presetminimum .0 ≤ 1000000
+  pub presetmaximum : st .presetmaximum .0 ≤ 1000000
   pub setticks : st .setticks .0 ≤ 1000
 
 pub settings-bounds : (st : Settings) → settingsHold st ≡ true → SettingsBounds st
@@ -45,8 +45,8 @@ settings-bounds st h =
       atd2 = most _ _ _ (p .1 .1 .1 .1 .1 .0);
       atd3 = most _ _ _ (p .1 .1 .1 .1 .1 .1 .0);
       percentage = most _ _ _ (p .1 .1 .1 .1 .1 .1 .1 .0);
-      least = most _ _ _ (p .1 .1 .1 .1 .1 .1 .1 .1 .0);
-      most = most _ _ _ (p .1 .1 .1 .1 .1 .1 .1 .1 .1 .0);
+      presetminimum = most _ _ _ (p .1 .1 .1 .1 .1 .1 .1 .1 .0);
+      presetmaximum = most _ _ _ (p .1 .1 .1 .1 .1 .1 .1 .1 .1 .0);
       setticks = most _ _ _ (p .1 .1 .1 .1 .1 .1 .1 .1 .1 .1 .1 .0);
     }
 
@@ -76,8 +76,8 @@ small x = x .0 ≤ 1000000000
 record MarketBounds (m : Market) : Type 0 where
   pub nbb : small (m .nbb)
   pub nbo : small (m .nbo)
-  pub bid : small (m .bid)
-  pub offer : small (m .offer)
+  pub ownbid : small (m .ownbid)
+  pub ownoffer : small (m .ownoffer)
   pub close : small (m .close)
 
 market-bounds : (m : Market) → marketHolds m ≡ true → MarketBounds m
@@ -87,8 +87,8 @@ market-bounds m h =
     record {
       nbb = most 0 1000000000 (m .nbb .0) (p .1 .1 .0);
       nbo = most 0 1000000000 (m .nbo .0) (p .1 .1 .1 .0);
-      bid = most 0 1000000000 (m .bid .0) (p .1 .1 .1 .1 .0);
-      offer = most 0 1000000000 (m .offer .0) (p .1 .1 .1 .1 .1 .0);
+      ownbid = most 0 1000000000 (m .ownbid .0) (p .1 .1 .1 .1 .0);
+      ownoffer = most 0 1000000000 (m .ownoffer .0) (p .1 .1 .1 .1 .1 .0);
       close = most 0 1000000000 (m .close .0) (p .1 .1 .1 .1 .1 .1 .0);
     }
 
@@ -97,7 +97,7 @@ national-bound : (bought : Bool) (m : Market) → MarketBounds m → small (nati
 national-bound bought m b = either small bought (b .nbo) (b .nbb)
 
 own-bound : (bought : Bool) (m : Market) → MarketBounds m → small (own bought m)
-own-bound bought m b = either small bought (b .offer) (b .bid)
+own-bound bought m b = either small bought (b .ownoffer) (b .ownbid)
 
 pub reference-bound : (bought : Bool) (m : Market) → marketHolds m ≡ true → reference bought m .0 ≤ 1000000000
 unfolding reference elsewhereReference

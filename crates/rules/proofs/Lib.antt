@@ -20,6 +20,7 @@ pub mod Sequence
 pub mod Slicing
 pub mod Numbering
 pub mod Bounds
+pub mod Handed
 pub mod FairTables
 pub mod Examples
 pub mod Edges

@@ -84,7 +84,7 @@ maximumOf (p ∷ q ∷ d ∷ c ∷ r) = strikeOf d - strikeOf c
 
 -- "A is M times the percentage, over 10,000, rounded down, then raised to the preset minimum and lowered to the preset maximum."
 unfoldable pub allowance : Settings → ℕ → ℕ
-allowance st m = min (st .most .0) (max (st .least .0) (m * st .percentage / 10000))
+allowance st m = min (st .presetmaximum .0) (max (st .presetminimum .0) (m * st .percentage / 10000))
 
 abbrev pub hasMaximum : ℕ → Bool
 hasMaximum shape = eqb shape 1 || eqb shape 2 || eqb shape 4

@@ -2,7 +2,7 @@
 use mathlib.Core.Path.{_≡_}
 use mathlib.Core.List.{List, [], _∷_, _++_, reverse}
 use mathlib.Core.Bool.{Bool, true, false}
-use Prim.Native.Nat.{ℕ, _+_, _-_}
+use Prim.Native.Nat.{ℕ, suc, _+_, _-_}
 use lib.ListN.{take, drop}
 use lib.IntN.{ℤ, pos, negℤ}
 use Rattle.rules.specs.declared.Mills.{Mills}
@@ -119,9 +119,22 @@ expiries =
     ∷ (plain (minus 1000) (lentOf (pos 1) (parts xyz 2027 12 31 67 20000) ∷ lentOf (minus 1) (parts xyz 2028 1 1 67 20000) ∷ []), answers 0 2 0 1)
     ∷ []
 
+-- nine market values
+abbrev market : ℕ → ℕ → ℕ → ℕ → ℕ → ℕ → ℕ → ℕ → ℕ → Market
+market phase elsewhere extended underlying nbb nbo bid offer close =
+    marketOf (phase ∷ elsewhere ∷ extended ∷ underlying ∷ nbb ∷ nbo ∷ bid ∷ offer ∷ close ∷ [])
+
+-- the numbers with another one at a place
+abbrev changed : ℕ → ℕ → List ℕ → List ℕ
+changed i n ns = take i ns ++ (n ∷ drop (suc i) ns)
+
+-- the numbers of the examples' settings
+abbrev exampleNumbers : List ℕ
+exampleNumbers = 1 ∷ 1 ∷ 1 ∷ 1 ∷ 1 ∷ 1 ∷ 1 ∷ 10 ∷ 10 ∷ 10 ∷ 5 ∷ 5 ∷ 5 ∷ 5 ∷ 300 ∷ 0 ∷ 600 ∷ 4 ∷ 0 ∷ 0 ∷ []
+
 -- the market with an underlying value only
 abbrev underlyingOf : ℕ → Market
-underlyingOf u = marketOf 1 0 0 u 0 0 0 0 0
+underlyingOf u = market 1 0 0 u 0 0 0 0 0
 
 abbrev call21 : Settings → Market → Terms → ℕ
 call21 st m t = number st m t (calls (pos 1) 5 ∷ [])
@@ -135,8 +148,8 @@ paid =
     (call21 usual (underlyingOf 10000) (limit (pos 9999)), 0)
     ∷ (call21 usual (underlyingOf 10000) (limit (pos 10000)), 21)
     -- an adjusted class, extended hours: any value but 0
-    ∷ (call21 (settingsOf 1 1 1 1 1 1 1 10 10 10 5 5 5 5 300 0 600 4 2 0) (underlyingOf 10000) (limit (pos 10000)), 0)
-    ∷ (call21 usual (marketOf 1 0 2 10000 0 0 0 0 0) (limit (pos 10000)), 0)
+    ∷ (call21 (settingsOf (changed 18 2 exampleNumbers)) (underlyingOf 10000) (limit (pos 10000)), 0)
+    ∷ (call21 usual (market 1 0 2 10000 0 0 0 0 0) (limit (pos 10000)), 0)
     -- market orders in the opening process, and not; limit orders in it
     ∷ (call21 usual (underlyingOf 10000) (termsOf (pos 10000) 2 0 0 2), 0)
     ∷ (call21 usual (underlyingOf 10000) (termsOf (pos 10000) 2 0 0 0), 21)
@@ -178,15 +191,15 @@ sides =
 
 -- percentage and presets; M of the vertical is 10,000
 abbrev most24 : ℕ → ℕ → ℕ → ℤ → ℕ
-most24 percentage least most price = number (settingsOf 1 1 1 1 1 1 1 10 10 10 5 5 5 5 percentage least most 4 0 0) exampleMarket (limit price) vertical
+most24 percentage least most price = number (settingsOf (changed 14 percentage (changed 15 least (changed 16 most exampleNumbers)))) exampleMarket (limit price) vertical
 
 abbrev maxima : List (ℕ × ℕ)
 maxima =
     -- the percentage, rounded down
     (most24 300 0 600 (pos 10300), 0)
     ∷ (most24 300 0 600 (pos 10301), 24)
-    ∷ (number (settingsOf 1 1 1 1 1 1 1 10 10 10 5 5 5 5 9 0 600 4 0 0) exampleMarket (limit (pos 1000)) (puts (minus 1) 20 ∷ puts (pos 1) 21 ∷ []), 0)
-    ∷ (number (settingsOf 1 1 1 1 1 1 1 10 10 10 5 5 5 5 9 0 600 4 0 0) exampleMarket (limit (pos 1001)) (puts (minus 1) 20 ∷ puts (pos 1) 21 ∷ []), 24)
+    ∷ (number (settingsOf (changed 14 9 exampleNumbers)) exampleMarket (limit (pos 1000)) (puts (minus 1) 20 ∷ puts (pos 1) 21 ∷ []), 0)
+    ∷ (number (settingsOf (changed 14 9 exampleNumbers)) exampleMarket (limit (pos 1001)) (puts (minus 1) 20 ∷ puts (pos 1) 21 ∷ []), 24)
     -- raised to the minimum, lowered to the maximum
     ∷ (most24 0 50 600 (pos 10050), 0)
     ∷ (most24 0 50 600 (pos 10051), 24)
@@ -200,7 +213,7 @@ maxima =
 
 -- ticks of 5 and 10, distances of 2, 3, 4 and 5 ticks; a buy against an NBO
 abbrev far : ℕ → ℕ → ℕ
-far nbo price = number (settingsOf 1 1 1 1 1 1 1 5 10 10 2 3 4 5 300 0 600 4 0 0) (marketOf 1 0 0 0 0 nbo 0 0 0) (limit (pos price)) (calls (pos 1) 20 ∷ [])
+far nbo price = number (settingsOf (changed 7 5 (changed 10 2 (changed 11 3 (changed 12 4 exampleNumbers))))) (market 1 0 0 0 0 nbo 0 0 0) (limit (pos price)) (calls (pos 1) 20 ∷ [])
 
 abbrev bands : List (ℕ × ℕ)
 bands =
@@ -229,50 +242,50 @@ sellAt m r = number usual m (limit (minus (r - 50))) (calls (minus 1) 20 ∷ [])
 abbrev references : List ((List ℕ) × (List ℕ))
 references =
     -- open: the national best; the own price where the NBBO is locked, crossed or unavailable
-    (buyAt (marketOf 1 2 0 0 1100 1200 1300 1400 1500) 1200, (0 ∷ 25 ∷ []))
-    ∷ (sellAt (marketOf 1 2 0 0 1100 1200 1300 1400 1500) 1100, (0 ∷ 25 ∷ []))
-    ∷ (buyAt (marketOf 1 2 0 0 1200 1200 1300 1400 1500) 1400, (0 ∷ 25 ∷ []))
-    ∷ (sellAt (marketOf 1 2 0 0 1200 1100 1300 1400 1500) 1300, (0 ∷ 25 ∷ []))
-    ∷ (buyAt (marketOf 1 2 0 0 0 0 1300 1400 1500) 1400, (0 ∷ 25 ∷ []))
-    ∷ (buyAt (marketOf 1 2 0 0 0 1200 1300 1400 1500) 1200, (0 ∷ 25 ∷ []))
+    (buyAt (market 1 2 0 0 1100 1200 1300 1400 1500) 1200, (0 ∷ 25 ∷ []))
+    ∷ (sellAt (market 1 2 0 0 1100 1200 1300 1400 1500) 1100, (0 ∷ 25 ∷ []))
+    ∷ (buyAt (market 1 2 0 0 1200 1200 1300 1400 1500) 1400, (0 ∷ 25 ∷ []))
+    ∷ (sellAt (market 1 2 0 0 1200 1100 1300 1400 1500) 1300, (0 ∷ 25 ∷ []))
+    ∷ (buyAt (market 1 2 0 0 0 0 1300 1400 1500) 1400, (0 ∷ 25 ∷ []))
+    ∷ (buyAt (market 1 2 0 0 0 1200 1300 1400 1500) 1200, (0 ∷ 25 ∷ []))
     -- a halt: the national best, even so
-    ∷ (buyAt (marketOf 2 2 0 0 1200 1200 1300 1400 1500) 1200, (0 ∷ 25 ∷ []))
-    ∷ (sellAt (marketOf 2 2 0 0 1200 1100 1300 1400 1500) 1200, (0 ∷ 25 ∷ []))
+    ∷ (buyAt (market 2 2 0 0 1200 1200 1300 1400 1500) 1200, (0 ∷ 25 ∷ []))
+    ∷ (sellAt (market 2 2 0 0 1200 1100 1300 1400 1500) 1200, (0 ∷ 25 ∷ []))
     -- before the opening, open elsewhere
-    ∷ (buyAt (marketOf 0 2 0 0 1100 1200 1300 1400 1500) 1200, (0 ∷ 25 ∷ []))
-    ∷ (buyAt (marketOf 0 2 0 0 1200 1200 1300 1400 1500) 1500, (0 ∷ 25 ∷ []))
-    ∷ (sellAt (marketOf 0 2 0 0 1200 1100 1300 1400 1500) 1500, (0 ∷ 25 ∷ []))
-    ∷ (buyAt (marketOf 0 2 0 0 0 0 1300 1400 1500) 1500, (0 ∷ 25 ∷ []))
+    ∷ (buyAt (market 0 2 0 0 1100 1200 1300 1400 1500) 1200, (0 ∷ 25 ∷ []))
+    ∷ (buyAt (market 0 2 0 0 1200 1200 1300 1400 1500) 1500, (0 ∷ 25 ∷ []))
+    ∷ (sellAt (market 0 2 0 0 1200 1100 1300 1400 1500) 1500, (0 ∷ 25 ∷ []))
+    ∷ (buyAt (market 0 2 0 0 0 0 1300 1400 1500) 1500, (0 ∷ 25 ∷ []))
     -- one side alone missing: the close at least the NBB, at most the NBO
-    ∷ (buyAt (marketOf 0 2 0 0 1500 0 1300 1400 1500) 1500, (0 ∷ 25 ∷ []))
-    ∷ (sellAt (marketOf 0 2 0 0 0 1500 1300 1400 1500) 1500, (0 ∷ 25 ∷ []))
+    ∷ (buyAt (market 0 2 0 0 1500 0 1300 1400 1500) 1500, (0 ∷ 25 ∷ []))
+    ∷ (sellAt (market 0 2 0 0 0 1500 1300 1400 1500) 1500, (0 ∷ 25 ∷ []))
     -- before the opening otherwise: the close
-    ∷ (buyAt (marketOf 0 0 0 0 1100 1200 1300 1400 1500) 1500, (0 ∷ 25 ∷ []))
+    ∷ (buyAt (market 0 0 0 0 1100 1200 1300 1400 1500) 1500, (0 ∷ 25 ∷ []))
     ∷ []
 
 -- no reference: an NBO missing when open, in a halt, and with the close below the NBB; a sell with the close above the NBO; no close
 abbrev without : List (ℕ × ℕ)
 without =
-    (number usual (marketOf 1 0 0 0 1100 0 1300 1400 1500) (limit (pos 9000)) (calls (pos 1) 20 ∷ []), 0)
-    ∷ (number usual (marketOf 2 0 0 0 1100 0 1300 1400 1500) (limit (pos 9000)) (calls (pos 1) 20 ∷ []), 0)
-    ∷ (number usual (marketOf 0 1 0 0 1501 0 1300 1400 1500) (limit (pos 9000)) (calls (pos 1) 20 ∷ []), 0)
-    ∷ (number usual (marketOf 0 1 0 0 0 1499 1300 1400 1500) (limit (minus 1)) (calls (minus 1) 20 ∷ []), 0)
-    ∷ (number usual (marketOf 0 0 0 0 1100 1200 1300 1400 0) (limit (pos 9000)) (calls (pos 1) 20 ∷ []), 0)
+    (number usual (market 1 0 0 0 1100 0 1300 1400 1500) (limit (pos 9000)) (calls (pos 1) 20 ∷ []), 0)
+    ∷ (number usual (market 2 0 0 0 1100 0 1300 1400 1500) (limit (pos 9000)) (calls (pos 1) 20 ∷ []), 0)
+    ∷ (number usual (market 0 1 0 0 1501 0 1300 1400 1500) (limit (pos 9000)) (calls (pos 1) 20 ∷ []), 0)
+    ∷ (number usual (market 0 1 0 0 0 1499 1300 1400 1500) (limit (minus 1)) (calls (minus 1) 20 ∷ []), 0)
+    ∷ (number usual (market 0 0 0 0 1100 1200 1300 1400 0) (limit (pos 9000)) (calls (pos 1) 20 ∷ []), 0)
     ∷ []
 
 -- 25 of stop, manual and market orders, of a limit order in the opening process, and of two legs
 abbrev flags : List (ℕ × ℕ)
 flags =
-    (number usual (marketOf 1 0 0 0 0 1200 0 0 0) (termsOf (pos 1251) 0 2 0 0) (calls (pos 1) 20 ∷ []), 0)
-    ∷ (number usual (marketOf 1 0 0 0 0 1200 0 0 0) (termsOf (pos 1251) 0 0 2 0) (calls (pos 1) 20 ∷ []), 0)
-    ∷ (number usual (marketOf 1 0 0 0 0 1200 0 0 0) (termsOf (pos 1251) 2 0 0 0) (calls (pos 1) 20 ∷ []), 0)
-    ∷ (number usual (marketOf 1 0 0 0 0 1200 0 0 0) (termsOf (pos 1251) 0 0 0 2) (calls (pos 1) 20 ∷ []), 25)
-    ∷ (number usual (marketOf 1 0 0 0 0 1200 0 0 0) (limit (pos 1251)) vertical, 0)
+    (number usual (market 1 0 0 0 0 1200 0 0 0) (termsOf (pos 1251) 0 2 0 0) (calls (pos 1) 20 ∷ []), 0)
+    ∷ (number usual (market 1 0 0 0 0 1200 0 0 0) (termsOf (pos 1251) 0 0 2 0) (calls (pos 1) 20 ∷ []), 0)
+    ∷ (number usual (market 1 0 0 0 0 1200 0 0 0) (termsOf (pos 1251) 2 0 0 0) (calls (pos 1) 20 ∷ []), 0)
+    ∷ (number usual (market 1 0 0 0 0 1200 0 0 0) (termsOf (pos 1251) 0 0 0 2) (calls (pos 1) 20 ∷ []), 25)
+    ∷ (number usual (market 1 0 0 0 0 1200 0 0 0) (limit (pos 1251)) vertical, 0)
     ∷ []
 
 -- the settings of the examples with other switches
 abbrev switched : ℕ → ℕ → ℕ → ℕ → ℕ → ℕ → ℕ → Settings
-switched c20 c21 c22 c23 c24 c25 c26 = settingsOf c20 c21 c22 c23 c24 c25 c26 10 10 10 5 5 5 5 300 0 600 4 0 0
+switched c20 c21 c22 c23 c24 c25 c26 = settingsOf (c20 ∷ c21 ∷ c22 ∷ c23 ∷ c24 ∷ c25 ∷ c26 ∷ drop 7 exampleNumbers)
 
 -- an order for each check, with its switch alone on, and alone off; last a put that both 20 and 25 reject
 abbrev switches : List (ℕ × ℕ)
@@ -287,17 +300,17 @@ switches =
     ∷ (number (switched 1 1 1 0 1 1 1) exampleMarket (limit (minus 1)) vertical, 0)
     ∷ (number (switched 0 0 0 0 2 0 0) exampleMarket (limit (pos 10301)) vertical, 24)
     ∷ (number (switched 1 1 1 1 0 1 1) exampleMarket (limit (pos 10301)) vertical, 0)
-    ∷ (number (switched 0 0 0 0 0 2 0) (marketOf 1 0 0 0 0 1200 0 0 0) (limit (pos 1251)) (calls (pos 1) 20 ∷ []), 25)
-    ∷ (number (switched 1 1 1 1 1 0 1) (marketOf 1 0 0 0 0 1200 0 0 0) (limit (pos 1251)) (calls (pos 1) 20 ∷ []), 0)
-    ∷ (number usual (marketOf 1 0 0 0 0 1200 0 0 0) (limit (pos 18000)) (puts (pos 1) 18 ∷ []), 20)
+    ∷ (number (switched 0 0 0 0 0 2 0) (market 1 0 0 0 0 1200 0 0 0) (limit (pos 1251)) (calls (pos 1) 20 ∷ []), 25)
+    ∷ (number (switched 1 1 1 1 1 0 1) (market 1 0 0 0 0 1200 0 0 0) (limit (pos 1251)) (calls (pos 1) 20 ∷ []), 0)
+    ∷ (number usual (market 1 0 0 0 0 1200 0 0 0) (limit (pos 18000)) (puts (pos 1) 18 ∷ []), 20)
     ∷ []
 
 -- what each number of a refusal needs
 abbrev badSettings : Settings
-badSettings = settingsOf 1 1 1 1 1 1 1 0 10 10 5 5 5 5 300 0 600 4 0 0
+badSettings = settingsOf (changed 7 0 exampleNumbers)
 
 abbrev badMarket : Market
-badMarket = marketOf 3 0 0 0 0 0 0 0 0
+badMarket = market 3 0 0 0 0 0 0 0 0
 
 abbrev tooMuch : Terms
 tooMuch = limit (pos 1000000000001)
@@ -339,42 +352,53 @@ limits =
     ∷ (number usual exampleMarket (limit (pos 1)) (calls (minus 1) 20 ∷ []), 8)
     ∷ []
 
--- each setting at its least, below it, at its most and above it; the minimum above the maximum
+-- every setting at its least, and at its most; switches and flags have no limits
+abbrev leastNumbers : List ℕ
+leastNumbers = 0 ∷ 0 ∷ 0 ∷ 0 ∷ 0 ∷ 0 ∷ 0 ∷ 1 ∷ 1 ∷ 1 ∷ 2 ∷ 2 ∷ 2 ∷ 2 ∷ 0 ∷ 0 ∷ 0 ∷ 0 ∷ 0 ∷ 0 ∷ []
+
+abbrev mostNumbers : List ℕ
+mostNumbers = 0 ∷ 0 ∷ 0 ∷ 0 ∷ 0 ∷ 0 ∷ 0 ∷ 1000 ∷ 1000 ∷ 1000 ∷ 1000 ∷ 1000 ∷ 1000 ∷ 1000 ∷ 10000 ∷ 1000000 ∷ 1000000 ∷ 1000 ∷ 9 ∷ 9 ∷ []
+
+-- each setting at its least, below it, at its most and above it; the minimum above the maximum; one setting too few, one too many
 abbrev settings : List (Bool × Bool)
 settings =
-    (settingsHold (settingsOf 0 0 0 0 0 0 0 1 1 1 2 2 2 2 0 0 0 0 0 0), true)
-    ∷ (settingsHold (settingsOf 0 0 0 0 0 0 0 1000 1000 1000 1000 1000 1000 1000 10000 1000000 1000000 1000 9 9), true)
-    ∷ (settingsHold (settingsOf 0 0 0 0 0 0 0 0 1 1 2 2 2 2 0 0 0 0 0 0), false)
-    ∷ (settingsHold (settingsOf 0 0 0 0 0 0 0 1 0 1 2 2 2 2 0 0 0 0 0 0), false)
-    ∷ (settingsHold (settingsOf 0 0 0 0 0 0 0 1 1 0 2 2 2 2 0 0 0 0 0 0), false)
-    ∷ (settingsHold (settingsOf 0 0 0 0 0 0 0 1 1 1 1 2 2 2 0 0 0 0 0 0), false)
-    ∷ (settingsHold (settingsOf 0 0 0 0 0 0 0 1 1 1 2 1 2 2 0 0 0 0 0 0), false)
-    ∷ (settingsHold (settingsOf 0 0 0 0 0 0 0 1 1 1 2 2 1 2 0 0 0 0 0 0), false)
-    ∷ (settingsHold (settingsOf 0 0 0 0 0 0 0 1 1 1 2 2 2 1 0 0 0 0 0 0), false)
-    ∷ (settingsHold (settingsOf 0 0 0 0 0 0 0 1001 1 1 2 2 2 2 0 0 0 0 0 0), false)
-    ∷ (settingsHold (settingsOf 0 0 0 0 0 0 0 1 1001 1 2 2 2 2 0 0 0 0 0 0), false)
-    ∷ (settingsHold (settingsOf 0 0 0 0 0 0 0 1 1 1001 2 2 2 2 0 0 0 0 0 0), false)
-    ∷ (settingsHold (settingsOf 0 0 0 0 0 0 0 1 1 1 1001 2 2 2 0 0 0 0 0 0), false)
-    ∷ (settingsHold (settingsOf 0 0 0 0 0 0 0 1 1 1 2 1001 2 2 0 0 0 0 0 0), false)
-    ∷ (settingsHold (settingsOf 0 0 0 0 0 0 0 1 1 1 2 2 1001 2 0 0 0 0 0 0), false)
-    ∷ (settingsHold (settingsOf 0 0 0 0 0 0 0 1 1 1 2 2 2 1001 0 0 0 0 0 0), false)
-    ∷ (settingsHold (settingsOf 0 0 0 0 0 0 0 1 1 1 2 2 2 2 10001 0 0 0 0 0), false)
-    ∷ (settingsHold (settingsOf 0 0 0 0 0 0 0 1 1 1 2 2 2 2 0 0 1000001 0 0 0), false)
-    ∷ (settingsHold (settingsOf 0 0 0 0 0 0 0 1 1 1 2 2 2 2 0 1 0 0 0 0), false)
-    ∷ (settingsHold (settingsOf 0 0 0 0 0 0 0 1 1 1 2 2 2 2 0 0 0 1001 0 0), false)
+    (settingsHold (settingsOf leastNumbers), true)
+    ∷ (settingsHold (settingsOf mostNumbers), true)
+    ∷ (settingsHold (settingsOf (changed 7 0 leastNumbers)), false)
+    ∷ (settingsHold (settingsOf (changed 8 0 leastNumbers)), false)
+    ∷ (settingsHold (settingsOf (changed 9 0 leastNumbers)), false)
+    ∷ (settingsHold (settingsOf (changed 10 1 leastNumbers)), false)
+    ∷ (settingsHold (settingsOf (changed 11 1 leastNumbers)), false)
+    ∷ (settingsHold (settingsOf (changed 12 1 leastNumbers)), false)
+    ∷ (settingsHold (settingsOf (changed 13 1 leastNumbers)), false)
+    ∷ (settingsHold (settingsOf (changed 7 1001 leastNumbers)), false)
+    ∷ (settingsHold (settingsOf (changed 8 1001 leastNumbers)), false)
+    ∷ (settingsHold (settingsOf (changed 9 1001 leastNumbers)), false)
+    ∷ (settingsHold (settingsOf (changed 10 1001 leastNumbers)), false)
+    ∷ (settingsHold (settingsOf (changed 11 1001 leastNumbers)), false)
+    ∷ (settingsHold (settingsOf (changed 12 1001 leastNumbers)), false)
+    ∷ (settingsHold (settingsOf (changed 13 1001 leastNumbers)), false)
+    ∷ (settingsHold (settingsOf (changed 14 10001 leastNumbers)), false)
+    ∷ (settingsHold (settingsOf (changed 16 1000001 leastNumbers)), false)
+    ∷ (settingsHold (settingsOf (changed 15 1 leastNumbers)), false)
+    ∷ (settingsHold (settingsOf (changed 17 1001 leastNumbers)), false)
+    ∷ (settingsHold (settingsOf (take 19 leastNumbers)), false)
+    ∷ (settingsHold (settingsOf (leastNumbers ++ (0 ∷ []))), false)
     ∷ []
 
--- each market value at its most, and above it
+-- each market value at its most, and above it; one value too few, one too many
 abbrev markets : List (Bool × Bool)
 markets =
-    (marketHolds (marketOf 2 9 9 1000000000 1000000000 1000000000 1000000000 1000000000 1000000000), true)
-    ∷ (marketHolds (marketOf 3 0 0 0 0 0 0 0 0), false)
-    ∷ (marketHolds (marketOf 0 0 0 1000000001 0 0 0 0 0), false)
-    ∷ (marketHolds (marketOf 0 0 0 0 1000000001 0 0 0 0), false)
-    ∷ (marketHolds (marketOf 0 0 0 0 0 1000000001 0 0 0), false)
-    ∷ (marketHolds (marketOf 0 0 0 0 0 0 1000000001 0 0), false)
-    ∷ (marketHolds (marketOf 0 0 0 0 0 0 0 1000000001 0), false)
-    ∷ (marketHolds (marketOf 0 0 0 0 0 0 0 0 1000000001), false)
+    (marketHolds (market 2 9 9 1000000000 1000000000 1000000000 1000000000 1000000000 1000000000), true)
+    ∷ (marketHolds (market 3 0 0 0 0 0 0 0 0), false)
+    ∷ (marketHolds (market 0 0 0 1000000001 0 0 0 0 0), false)
+    ∷ (marketHolds (market 0 0 0 0 1000000001 0 0 0 0), false)
+    ∷ (marketHolds (market 0 0 0 0 0 1000000001 0 0 0), false)
+    ∷ (marketHolds (market 0 0 0 0 0 0 1000000001 0 0), false)
+    ∷ (marketHolds (market 0 0 0 0 0 0 0 1000000001 0), false)
+    ∷ (marketHolds (market 0 0 0 0 0 0 0 0 1000000001), false)
+    ∷ (marketHolds (marketOf (0 ∷ 0 ∷ 0 ∷ 0 ∷ 0 ∷ 0 ∷ 0 ∷ 0 ∷ [])), false)
+    ∷ (marketHolds (marketOf (0 ∷ 0 ∷ 0 ∷ 0 ∷ 0 ∷ 0 ∷ 0 ∷ 0 ∷ 0 ∷ 0 ∷ [])), false)
     ∷ []
 
 abbrev quote : Settings → Market → List ℕ → ℕ → ℕ → ℕ → QuoteAnswer
@@ -412,28 +436,28 @@ quoteAnswers =
 abbrev inversions : List (ℕ × ℕ)
 inversions =
     -- not in a halt; before the opening only where it is open elsewhere
-    (quoted (marketOf 2 1 0 0 1100 1200 1000 1300 0) 1200 1300, 0)
-    ∷ (quoted (marketOf 0 0 0 0 1100 1200 1000 1300 0) 1200 1300, 0)
-    ∷ (quoted (marketOf 0 2 0 0 1100 1200 1000 1300 0) 1200 1300, 26)
+    (quoted (market 2 1 0 0 1100 1200 1000 1300 0) 1200 1300, 0)
+    ∷ (quoted (market 0 0 0 0 1100 1200 1000 1300 0) 1200 1300, 0)
+    ∷ (quoted (market 0 2 0 0 1100 1200 1000 1300 0) 1200 1300, 26)
     -- crossed, unavailable: the own offer with the set ticks
-    ∷ (quoted (marketOf 1 0 0 0 1200 1100 1000 1300 0) 1340 1400, 0)
-    ∷ (quoted (marketOf 1 0 0 0 1200 1100 1000 1300 0) 1341 1400, 26)
-    ∷ (quoted (marketOf 1 0 0 0 0 0 1000 1300 0) 1340 1400, 0)
-    ∷ (quoted (marketOf 1 0 0 0 0 0 1000 1300 0) 1341 1400, 26)
+    ∷ (quoted (market 1 0 0 0 1200 1100 1000 1300 0) 1340 1400, 0)
+    ∷ (quoted (market 1 0 0 0 1200 1100 1000 1300 0) 1341 1400, 26)
+    ∷ (quoted (market 1 0 0 0 0 0 1000 1300 0) 1340 1400, 0)
+    ∷ (quoted (market 1 0 0 0 0 0 1000 1300 0) 1341 1400, 26)
     -- the own bid: an offer below it
-    ∷ (quoted (marketOf 1 0 0 0 0 0 1000 1300 0) 900 960, 0)
-    ∷ (quoted (marketOf 1 0 0 0 0 0 1000 1300 0) 900 959, 26)
+    ∷ (quoted (market 1 0 0 0 0 0 1000 1300 0) 900 960, 0)
+    ∷ (quoted (market 1 0 0 0 0 0 1000 1300 0) 900 959, 26)
     -- a missing NBO skips the bid, a missing NBB the offer
-    ∷ (quoted (marketOf 1 0 0 0 1100 0 1000 1300 0) 5000 6000, 0)
-    ∷ (quoted (marketOf 1 0 0 0 0 1200 1000 1300 0) 1 2, 0)
+    ∷ (quoted (market 1 0 0 0 1100 0 1000 1300 0) 5000 6000, 0)
+    ∷ (quoted (market 1 0 0 0 0 1200 1000 1300 0) 1 2, 0)
     -- the tick at the comparison price: 40 mills from 4 ticks of 10 below 3,000, 80 from 4 of 20 from there
-    ∷ (quote (settingsOf 1 1 1 1 1 1 1 10 20 10 5 5 5 5 300 0 600 4 0 0) (marketOf 1 0 0 0 2000 2999 1000 2999 0) call 3039 4000 0 .number, 0)
-    ∷ (quote (settingsOf 1 1 1 1 1 1 1 10 20 10 5 5 5 5 300 0 600 4 0 0) (marketOf 1 0 0 0 2000 2999 1000 2999 0) call 3040 4000 0 .number, 26)
-    ∷ (quote (settingsOf 1 1 1 1 1 1 1 10 20 10 5 5 5 5 300 0 600 4 0 0) (marketOf 1 0 0 0 2000 3000 1000 3000 0) call 3080 4000 0 .number, 0)
-    ∷ (quote (settingsOf 1 1 1 1 1 1 1 10 20 10 5 5 5 5 300 0 600 4 0 0) (marketOf 1 0 0 0 2000 3000 1000 3000 0) call 3081 4000 0 .number, 26)
+    ∷ (quote (settingsOf (changed 8 20 exampleNumbers)) (market 1 0 0 0 2000 2999 1000 2999 0) call 3039 4000 0 .number, 0)
+    ∷ (quote (settingsOf (changed 8 20 exampleNumbers)) (market 1 0 0 0 2000 2999 1000 2999 0) call 3040 4000 0 .number, 26)
+    ∷ (quote (settingsOf (changed 8 20 exampleNumbers)) (market 1 0 0 0 2000 3000 1000 3000 0) call 3080 4000 0 .number, 0)
+    ∷ (quote (settingsOf (changed 8 20 exampleNumbers)) (market 1 0 0 0 2000 3000 1000 3000 0) call 3081 4000 0 .number, 26)
     -- its switch alone off, alone on
-    ∷ (quote (switched 1 1 1 1 1 1 0) (marketOf 1 0 0 0 1100 1200 1000 1300 0) call 1200 1300 0 .number, 0)
-    ∷ (quote (switched 0 0 0 0 0 0 2) (marketOf 1 0 0 0 1100 1200 1000 1300 0) call 1200 1300 0 .number, 26)
+    ∷ (quote (switched 1 1 1 1 1 1 0) (market 1 0 0 0 1100 1200 1000 1300 0) call 1200 1300 0 .number, 0)
+    ∷ (quote (switched 0 0 0 0 0 0 2) (market 1 0 0 0 1100 1200 1000 1300 0) call 1200 1300 0 .number, 26)
     ∷ []
 
 -- the reader's number for parts written as bytes, whatever they say
@@ -535,6 +559,15 @@ badTallies =
     ∷ (isBadTally (tally 0 0 0 0), false)
     ∷ []
 
+-- the host's sequence of settings and of market values
+abbrev handed : List (Settings × Settings)
+handed = (settingsOf exampleNumbers, exampleSettings 0) ∷ (settingsOf (changed 19 7 exampleNumbers), exampleSettings 7) ∷ []
+
+abbrev values : List (Market × Market)
+values =
+    (market 1 2 3 4 5 6 7 8 9, record { phase = 1; elsewhere = 2; extended = 3; underlying = record { 0 = 4 }; nbb = record { 0 = 5 }; nbo = record { 0 = 6 }; ownbid = record { 0 = 7 }; ownoffer = record { 0 = 8 }; close = record { 0 = 9 } })
+    ∷ []
+
 pub record Edges : Type 0 where
   pub shape : Hold shapes
   pub expiry : Hold expiries
@@ -548,6 +581,8 @@ pub record Edges : Type 0 where
   pub switch : Hold switches
   pub refusal : Hold sequence
   pub limited : Hold limits
+  pub settingsRecord : Hold handed
+  pub marketRecord : Hold values
   pub settingsLimits : Hold settings
   pub marketLimits : Hold markets
   pub quotes : Hold quoteAnswers

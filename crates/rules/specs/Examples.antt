@@ -37,8 +37,8 @@ exampleSettings european =
       atd2 = record { 0 = 5 };
       atd3 = record { 0 = 5 };
       percentage = 300;
-      least = record { 0 = 0 };
-      most = record { 0 = 600 };
+      presetminimum = record { 0 = 0 };
+      presetmaximum = record { 0 = 600 };
       setticks = record { 0 = 4 };
       adjusted = 0;
       european = european;
@@ -54,8 +54,8 @@ exampleMarket =
       underlying = record { 0 = 0 };
       nbb = record { 0 = 0 };
       nbo = record { 0 = 0 };
-      bid = record { 0 = 0 };
-      offer = record { 0 = 0 };
+      ownbid = record { 0 = 0 };
+      ownoffer = record { 0 = 0 };
       close = record { 0 = 0 };
     }
 
@@ -165,7 +165,7 @@ maxima =
 
 -- the example market with an underlying, an NBB and an NBO, an own bid and offer
 abbrev marketWith : ℕ → ℕ → ℕ → ℕ → ℕ → Market
-marketWith underlying nbb nbo bid offer = marketOf 1 0 0 underlying nbb nbo bid offer 0
+marketWith underlying nbb nbo bid offer = marketOf (1 ∷ 0 ∷ 0 ∷ underlying ∷ nbb ∷ nbo ∷ bid ∷ offer ∷ 0 ∷ [])
 
 -- an order of one leg, and the number expected
 pub record Single : Type 0 where

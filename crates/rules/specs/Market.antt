@@ -1,7 +1,9 @@
 -- Document 01, Market and quote checks: the market's values, check 25, and the limits of settings and market.
+use mathlib.Core.Path.{_≡_}
 use mathlib.Core.List.{List, [], _∷_}
-use mathlib.Core.Bool.{Bool, cond, not, _&&_, _||_}
+use mathlib.Core.Bool.{Bool, false, cond, not, _&&_, _||_}
 use Prim.Native.Nat.{ℕ, _+_}
+use lib.ListN.{length, getD}
 use lib.Dec.{eqb, leb, ltb}
 use Rattle.rules.specs.declared.Mills.{Mills}
 use Rattle.rules.specs.declared.Ticks.{Ticks}
@@ -43,7 +45,7 @@ abbrev pub national : Bool → Market → Mills
 national bought m = cond bought (m .nbo) (m .nbb)
 
 abbrev pub own : Bool → Market → Mills
-own bought m = cond bought (m .offer) (m .bid)
+own bought m = cond bought (m .ownoffer) (m .ownbid)
 
 -- `x` is at least `y` for a buy; "A sell mirrors this"
 abbrev pub atOrPast : Bool → ℕ → ℕ → Bool
@@ -94,45 +96,54 @@ tickDistance st m t us =
     ∷ all (isTooFar st m t) us
     ∷ [])
 
--- settings and market as the host hands them in, number by number
-abbrev pub settingsOf : ℕ → ℕ → ℕ → ℕ → ℕ → ℕ → ℕ → ℕ → ℕ → ℕ → ℕ → ℕ → ℕ → ℕ → ℕ → ℕ → ℕ → ℕ → ℕ → ℕ → Settings
-settingsOf check20 check21 check22 check23 check24 check25 check26 lowtick hightick increment atd0 atd1 atd2 atd3 percentage least most setticks adjusted european =
+-- the settings that numbers say, in the sequence of the host's record; a number that is not there is 0
+abbrev pub settingsFrom : List ℕ → Settings
+settingsFrom ns =
     record {
-      check20 = check20;
-      check21 = check21;
-      check22 = check22;
-      check23 = check23;
-      check24 = check24;
-      check25 = check25;
-      check26 = check26;
-      lowtick = record { 0 = lowtick };
-      hightick = record { 0 = hightick };
-      increment = record { 0 = increment };
-      atd0 = record { 0 = atd0 };
-      atd1 = record { 0 = atd1 };
-      atd2 = record { 0 = atd2 };
-      atd3 = record { 0 = atd3 };
-      percentage = percentage;
-      least = record { 0 = least };
-      most = record { 0 = most };
-      setticks = record { 0 = setticks };
-      adjusted = adjusted;
-      european = european;
+      check20 = getD ns 0 0;
+      check21 = getD ns 1 0;
+      check22 = getD ns 2 0;
+      check23 = getD ns 3 0;
+      check24 = getD ns 4 0;
+      check25 = getD ns 5 0;
+      check26 = getD ns 6 0;
+      lowtick = record { 0 = getD ns 7 0 };
+      hightick = record { 0 = getD ns 8 0 };
+      increment = record { 0 = getD ns 9 0 };
+      atd0 = record { 0 = getD ns 10 0 };
+      atd1 = record { 0 = getD ns 11 0 };
+      atd2 = record { 0 = getD ns 12 0 };
+      atd3 = record { 0 = getD ns 13 0 };
+      percentage = getD ns 14 0;
+      presetminimum = record { 0 = getD ns 15 0 };
+      presetmaximum = record { 0 = getD ns 16 0 };
+      setticks = record { 0 = getD ns 17 0 };
+      adjusted = getD ns 18 0;
+      european = getD ns 19 0;
     }
 
-abbrev pub marketOf : ℕ → ℕ → ℕ → ℕ → ℕ → ℕ → ℕ → ℕ → ℕ → Market
-marketOf phase elsewhere extended underlying nbb nbo bid offer close =
+-- settings as the host hands them in: twenty numbers; any other number of them counts as zeros, which are outside the limits
+unfoldable pub settingsOf : List ℕ → Settings
+settingsOf ns = settingsFrom (cond (eqb (length ns) 20) ns [])
+
+-- the market that numbers say, in the sequence of the host's record; a number that is not there is 0
+abbrev pub marketFrom : List ℕ → Market
+marketFrom ns =
     record {
-      phase = phase;
-      elsewhere = elsewhere;
-      extended = extended;
-      underlying = record { 0 = underlying };
-      nbb = record { 0 = nbb };
-      nbo = record { 0 = nbo };
-      bid = record { 0 = bid };
-      offer = record { 0 = offer };
-      close = record { 0 = close };
+      phase = getD ns 0 0;
+      elsewhere = getD ns 1 0;
+      extended = getD ns 2 0;
+      underlying = record { 0 = getD ns 3 0 };
+      nbb = record { 0 = getD ns 4 0 };
+      nbo = record { 0 = getD ns 5 0 };
+      ownbid = record { 0 = getD ns 6 0 };
+      ownoffer = record { 0 = getD ns 7 0 };
+      close = record { 0 = getD ns 8 0 };
     }
+
+-- a market as the host hands it in: nine numbers; any other number of them counts as the phase 3, which is outside the limits
+unfoldable pub marketOf : List ℕ → Market
+marketOf ns = marketFrom (cond (eqb (length ns) 9) ns (3 ∷ []))
 
 -- "Settings: [..] two ticks [..] and the net increment 1 to 1,000; the four ATDs 2 to 1,000; percentage 0 to 10,000; presets 0 to 1,000,000, minimum not above maximum; set ticks 0 to 1,000"
 unfoldable pub settingsHold : Settings → Bool
@@ -146,9 +157,9 @@ settingsHold st =
     ∷ within 2 1000 (st .atd2 .0)
     ∷ within 2 1000 (st .atd3 .0)
     ∷ within 0 10000 (st .percentage)
-    ∷ within 0 1000000 (st .least .0)
-    ∷ within 0 1000000 (st .most .0)
-    ∷ leb (st .least .0) (st .most .0)
+    ∷ within 0 1000000 (st .presetminimum .0)
+    ∷ within 0 1000000 (st .presetmaximum .0)
+    ∷ leb (st .presetminimum .0) (st .presetmaximum .0)
     ∷ within 0 1000 (st .setticks .0)
     ∷ [])
 
@@ -160,7 +171,12 @@ marketHolds m =
     ∷ within 0 1000000000 (m .underlying .0)
     ∷ within 0 1000000000 (m .nbb .0)
     ∷ within 0 1000000000 (m .nbo .0)
-    ∷ within 0 1000000000 (m .bid .0)
-    ∷ within 0 1000000000 (m .offer .0)
+    ∷ within 0 1000000000 (m .ownbid .0)
+    ∷ within 0 1000000000 (m .ownoffer .0)
     ∷ within 0 1000000000 (m .close .0)
     ∷ [])
+
+-- A slice of another length has a value outside its limits, whatever it holds.
+pub record OtherLengths : Type 0 where
+  pub settings : (ns : List ℕ) → (length ns ≡ 20 → ⊥) → settingsHold (settingsOf ns) ≡ false
+  pub market : (ns : List ℕ) → (length ns ≡ 9 → ⊥) → marketHolds (marketOf ns) ≡ false

@@ -93,9 +93,9 @@ pub struct Settings {
     pub atd2: Ticks,
     pub atd3: Ticks,
     pub percentage: u64,
-    // The presets.
-    pub least: Mills,
-    pub most: Mills,
+    // The presets of check 24.
+    pub presetminimum: Mills,
+    pub presetmaximum: Mills,
     pub setticks: Ticks,
     pub adjusted: u64,
     pub european: u64,
@@ -110,8 +110,8 @@ pub struct Market {
     pub underlying: Mills,
     pub nbb: Mills,
     pub nbo: Mills,
-    pub bid: Mills,
-    pub offer: Mills,
+    pub ownbid: Mills,
+    pub ownoffer: Mills,
     pub close: Mills,
 }
 

@@ -17,7 +17,7 @@ pub fn national(bought: bool, m: Market) -> Mills
 pub fn own(bought: bool, m: Market) -> Mills
     ensures { λ r. ⌜ r ≡ own bought m ⌝ }
 {
-    if bought { m.offer } else { m.bid }
+    if bought { m.ownoffer } else { m.ownbid }
 }
 
 // Whether a buy's price is not below the other, or a sell's not above it.

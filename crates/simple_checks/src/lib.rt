@@ -1,10 +1,10 @@
 // The checks of a simple order: 20, 21 and 25, and the first of them that applies.
 use choice::both;
 use choice::negated;
+use distance::distance;
 use first::first_of_three;
-use paid::call_test;
-use paid::put_test;
-use quantity::distance;
+use put_call::call_test;
+use put_call::put_test;
 use reference::acceptable_ticks;
 use reference::reference;
 use reference::tick_at;

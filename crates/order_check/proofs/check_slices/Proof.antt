@@ -1,6 +1,6 @@
 use native.Mathlib.Omega.{arith}
 use mathlib.Core.Path.{sym, _∙_}
-use Rattle.order.proofs.Laws.{whole-lengths}
+use Rattle.order_record.proofs.Laws.{whole-lengths}
 use Rattle.order_check.proofs.Laws.{not-whole, too-many, as-record}
 use Rattle.order_check.proofs.check_slices.Statement.{statement}
 use Rattle.order_check.proofs.check_slices.Tie as tie

@@ -10,8 +10,9 @@ use Rattle.unit.proofs.orders.opc_check_order.Tie as tie
 
 returns : tie.Need-returns
 returns c =
-    let a = c .before .before .before .before .before .before .args in
-    let price = ap (λ (p : ℤ). termsOf p (a .kind) (a .stop) (a .manual) (a .opening)) (toZ-ofZ w64 (a .price) (c .before .before .before .before .before .before .fits .price)) in
+    let s = c .before .before .before .before .before .before .before .before in
+    let a = s .args in
+    let price = ap (λ (p : ℤ). termsOf p (a .kind) (a .stop) (a .manual) (a .opening)) (toZ-ofZ w64 (a .price) (s .fits .price)) in
     fields (c .check-slices .result) (c .check-slices .ensures ∙ same-check _ _ (c .before .before .settings-of .ensures) (c .before .market-of .ensures) (c .before .before .before .terms-of .ensures ∙ price))
 
 pub opc-check-order-spec : {M : Type 1} → statement M

@@ -10,7 +10,7 @@ use Rattle.unit.proofs.tallies.opc_check_order_tallied.Tie as tie
 
 returns : tie.Need-returns
 returns c =
-    let s = c .before .before .before .before .before .before .before .before .before .before in
+    let s = c .before .before .before .before .before .before .before .before .before .before .before .before in
     let a = s .args in
     let price = ap (λ (p : ℤ). termsOf p (a .kind) (a .stop) (a .manual) (a .opening)) (toZ-ofZ w64 (a .price) (s .fits .price)) in
     tallied-fields (c .check-tallied .result) _ _ (c .check-tallied .ensures ∙ ap (tallied _) (same-check _ _ (c .before .before .before .before .before .before .settings-of .ensures) (c .before .before .before .before .before .market-of .ensures) (c .before .before .before .before .before .before .before .terms-of .ensures ∙ price)))
