@@ -1,6 +1,6 @@
 -- Which numbers the entries' definitions give, and what a refusal leaves.
 use mathlib.Core.Path.{_≡_, refl, sym, ap, _∙_}
-use mathlib.Core.Logic.{inl, inr, ⊎-elim}
+use mathlib.Core.Logic.{⊎-elim}
 use mathlib.Core.List.{List, [], _∷_, List·Memᴰ, List·Memᴰ·head, List·Memᴰ·tail}
 use mathlib.Core.Bool.{Bool, true, false, cond, not, _&&_, _||_, true≢false}
 use Prim.Native.Nat.{ℕ, zero, suc, _/_}
@@ -16,33 +16,19 @@ use Rattle.rules.specs.declared.Mills.{Mills}
 use Rattle.rules.specs.declared.Series.{Series}
 use Rattle.rules.specs.declared.OrderAnswer.{OrderAnswer}
 use Rattle.rules.specs.declared.Tally.{Tally}
-use Rattle.rules.specs.Limits.{within}
-use Rattle.rules.specs.Lists.{all, any}
+use Rattle.rules.specs.Lists.{sameBool, all, any}
 use Rattle.rules.specs.Order.{isYes, rawLegs, recordLegs, termsOf, seriesOf, legsOf, units}
 use Rattle.rules.specs.Pairing.{byStrike, bothWalks}
 use Rattle.rules.specs.Class.{classOf}
-use Rattle.rules.specs.Numbers.{refusals, refusal, rejections, rejection, judged, isRefusal, refused, outcome, checkLegs, checkOrder, areWhole, checkSlices}
+use Rattle.rules.specs.Kinds.{isRefused, isRejected}
+use Rattle.rules.specs.Numbers.{refusals, refusal, rejections, rejection, judged, refused, outcome, checkLegs, checkOrder, areWhole, checkSlices}
 use Rattle.rules.specs.Symbol.{partsOf}
 use Rattle.rules.specs.Quote.{quoteRefusals, quoteRefusal, quoteRejections, quoteRejection, answeredQuote, quoteOutcome, checkQuote}
 use Rattle.rules.specs.Tally.{isBadTally, tallied, Call, orderAnswer, checkTallied}
-use Rattle.rules.specs.Demand1.{Reader, Writer, orderNumbers, OrderAnswers, OrderCheck, quoteNumbers, QuoteAnswers, QuoteCheck, TalliedAnswers, TalliedCheck}
-use Rattle.rules.proofs.Tests.{and-both}
+use Rattle.rules.specs.Demand1.{readerNumbers, Reader, writerNumbers, Writer, orderNumbers, OrderAnswers, OrderCheck, quoteNumbers, QuoteAnswers, QuoteCheck, TalliedAnswers, TalliedCheck, Numbered}
+use Rattle.rules.proofs.Tests.{and-both, not-eq, same-eq}
 use Rattle.rules.proofs.Symbols.{read-cases, write-cases}
-use Rattle.rules.proofs.Numbering.{first-of}
-
-pub reader : Reader
-reader s =
-    ⊎-elim
-    (λ a. rw (a .2) (record { number = inl refl; refusal = λ h. absurd (h refl) }))
-    (λ r. ⊎-elim (λ b. rw b (record { number = inr (inl refl); refusal = λ h. refl })) (λ d. rw d (record { number = inr (inr refl); refusal = λ h. refl })) r)
-    (read-cases s)
-
-pub writer : Writer
-writer p buffer =
-    ⊎-elim
-    (λ a. rw (a .2) (record { number = inl refl; refusal = λ h. absurd (h refl) }))
-    (λ r. ⊎-elim (λ b. rw b (record { number = inr (inl refl); refusal = λ h. (refl, refl) })) (λ d. rw d (record { number = inr (inr refl); refusal = λ h. (refl, refl) })) r)
-    (write-cases p buffer)
+use Rattle.rules.proofs.Numbering.{first-passes}
 
 -- what holds of all listed numbers holds of each
 pub passes : (f : ℕ → Bool) (n : ℕ) (ns : List ℕ) → all f ns ≡ true → List·Memᴰ n ns → f n ≡ true
@@ -60,22 +46,36 @@ member n (m ∷ ns) h = go (eqb n m) refl h (member n ns)
     go true e h ih = List·Memᴰ·head (eqb-true n m e)
     go false e h ih = List·Memᴰ·tail (ih h)
 
-abbrev InNumbers : ℕ → Type 0
-InNumbers n = any (eqb n) orderNumbers ≡ true
+abbrev isOf : List ℕ → ℕ → Bool
+isOf ns n = any (eqb n) ns
 
-refused-answers : (n : ℕ) → InNumbers n → OrderAnswers (refused n)
+pub reader : Reader
+unfolding any
+reader s =
+    ⊎-elim
+    (λ a. rw (a .2) (record { number = member 0 readerNumbers refl; refusal = λ h. absurd (true≢false (sym h)) }))
+    (λ r. ⊎-elim (λ b. rw b (record { number = member 1 readerNumbers refl; refusal = λ h. refl })) (λ d. rw d (record { number = member 4 readerNumbers refl; refusal = λ h. refl })) r)
+    (read-cases s)
+
+pub writer : Writer
+unfolding any
+writer p buffer =
+    ⊎-elim
+    (λ a. rw (a .2) (record { number = member 0 writerNumbers refl; refusal = λ h. absurd (true≢false (sym h)) }))
+    (λ r. ⊎-elim (λ b. rw b (record { number = member 2 writerNumbers refl; refusal = λ h. (refl, refl) })) (λ d. rw d (record { number = member 4 writerNumbers refl; refusal = λ h. (refl, refl) })) r)
+    (write-cases p buffer)
+
+refused-answers : (n : ℕ) → isOf orderNumbers n ≡ true → OrderAnswers (refused n)
 refused-answers n h = record { number = member n orderNumbers h; refusal = λ e. (refl, refl, refl) }
 
 module _ (st : Settings) (m : Market) (t : Terms) where
-  refusal-number : (n : ℕ) (rs : List RawLeg) → InNumbers (refusal st m t n rs)
-  unfolding refusal any
-  refusal-number n rs = first-of InNumbers (refusals st m t n rs) refl (λ e. refl, (λ e. refl, (λ e. refl, (λ e. refl, (λ e. refl, (λ e. refl, (λ e. refl, (λ e. refl, tt))))))))
+  refusal-number : (n : ℕ) (rs : List RawLeg) → isOf orderNumbers (refusal st m t n rs) ≡ true
+  unfolding refusal any all
+  refusal-number n rs = first-passes (isOf orderNumbers) (refusals st m t n rs) refl refl
 
-  rejection-number : (us : List Leg) (class : ℕ) → InNumbers (rejection st m t us class) × (isRefusal (rejection st m t us class) ≡ false)
-  unfolding rejection any
-  rejection-number us class =
-      first-of (λ n. InNumbers n × (isRefusal n ≡ false)) (rejections st m t us class) (refl, refl)
-      (λ e. (refl, refl), (λ e. (refl, refl), (λ e. (refl, refl), (λ e. (refl, refl), (λ e. (refl, refl), (λ e. (refl, refl), tt))))))
+  rejection-number : (us : List Leg) (class : ℕ) → isOf orderNumbers (rejection st m t us class) && not (isRefused (rejection st m t us class)) ≡ true
+  unfolding rejection any all
+  rejection-number us class = first-passes (λ n. isOf orderNumbers n && not (isRefused n)) (rejections st m t us class) refl refl
 
   legs-answers : (n : ℕ) (rs : List RawLeg) → OrderAnswers (checkLegs st m t n rs)
   unfolding checkLegs outcome judged
@@ -84,10 +84,10 @@ module _ (st : Settings) (m : Market) (t : Terms) where
       ls : List Leg
       ls = byStrike (legsOf rs)
 
-      go : (k : ℕ) → InNumbers k → OrderAnswers (outcome k (judged st m t ls))
+      go : (k : ℕ) → isOf orderNumbers k ≡ true → OrderAnswers (outcome k (judged st m t ls))
       go zero h =
-          let r = rejection-number (units ls) (classOf (units ls) (bothWalks (isYes (st .european)) ls)) in
-          record { number = member _ orderNumbers (r .0); refusal = λ e. absurd (true≢false (sym e ∙ r .1)) }
+          let r = and-both _ _ (rejection-number (units ls) (classOf (units ls) (bothWalks (isYes (st .european)) ls))) in
+          record { number = member _ orderNumbers (r .0); refusal = λ e. absurd (true≢false (sym e ∙ not-eq _ (r .1))) }
       go (suc k) h = refused-answers (suc k) h
 
 slices-answers : (st : Settings) (m : Market) (t : Terms) (symbols counts : List ℕ) (b : Bool) → areWhole symbols counts ≡ b → OrderAnswers (checkSlices st m t symbols counts)
@@ -106,22 +106,21 @@ order-check =
 -- ---- quotes
 
 module _ (st : Settings) (m : Market) where
-  abbrev IsQuoteRefusal : ℕ → Type 0
-  IsQuoteRefusal n = (any (eqb n) quoteNumbers ≡ true) × (within 20 26 n ≡ false)
+  -- a refusal is no rejection
+  abbrev refuses : ℕ → Bool
+  refuses n = isOf quoteNumbers n && not (isRejected n)
 
-  quote-refusal-number : (symbol : List ℕ) (bid offer : Mills) → IsQuoteRefusal (quoteRefusal st m symbol bid offer)
-  unfolding quoteRefusal any
-  quote-refusal-number symbol bid offer =
-      first-of IsQuoteRefusal (quoteRefusals st m symbol bid offer) (refl, refl) (λ e. (refl, refl), (λ e. (refl, refl), (λ e. (refl, refl), (λ e. (refl, refl), (λ e. (refl, refl), tt)))))
+  quote-refusal-number : (symbol : List ℕ) (bid offer : Mills) → refuses (quoteRefusal st m symbol bid offer) ≡ true
+  unfolding quoteRefusal any all
+  quote-refusal-number symbol bid offer = first-passes refuses (quoteRefusals st m symbol bid offer) refl refl
 
-  -- a rejection is none of the refusals' numbers, and 20 to 26 where it is not 0
-  abbrev IsQuoteRejection : ℕ → Type 0
-  IsQuoteRejection n = (any (eqb n) quoteNumbers ≡ true) × (isRefusal n ≡ false) × (within 20 26 n ≡ not (eqb n 0))
+  -- what is not 0 is a rejection
+  abbrev rejects : ℕ → Bool
+  rejects n = isOf quoteNumbers n && (not (isRefused n) && sameBool (isRejected n) (not (eqb n 0)))
 
-  quote-rejection-number : (s : Series) (bid offer : Mills) → IsQuoteRejection (quoteRejection st m s bid offer)
-  unfolding quoteRejection any
-  quote-rejection-number s bid offer =
-      first-of IsQuoteRejection (quoteRejections st m s bid offer) (refl, refl, refl) (λ e. (refl, refl, refl), (λ e. (refl, refl, refl), (λ e. (refl, refl, refl), tt)))
+  quote-rejection-number : (s : Series) (bid offer : Mills) → rejects (quoteRejection st m s bid offer) ≡ true
+  unfolding quoteRejection any all
+  quote-rejection-number s bid offer = first-passes rejects (quoteRejections st m s bid offer) refl refl
 
   quote-answers : (symbol : List ℕ) (bid offer : Mills) (resting : ℕ) → QuoteAnswers resting (checkQuote st m symbol bid offer resting)
   unfolding checkQuote quoteOutcome
@@ -131,15 +130,18 @@ module _ (st : Settings) (m : Market) where
       no-flag true = refl
       no-flag false = refl
 
-      go : (k : ℕ) → IsQuoteRefusal k → QuoteAnswers resting (quoteOutcome k (answeredQuote resting (quoteRejection st m (seriesOf (partsOf symbol)) bid offer)))
+      go : (k : ℕ) → refuses k ≡ true → QuoteAnswers resting (quoteOutcome k (answeredQuote resting (quoteRejection st m (seriesOf (partsOf symbol)) bid offer)))
       go zero h =
-          let r = quote-rejection-number (seriesOf (partsOf symbol)) bid offer in
+          let r = and-both _ _ (quote-rejection-number (seriesOf (partsOf symbol)) bid offer) in
+          let k = and-both _ _ (r .1) in
           record {
             number = member _ quoteNumbers (r .0);
-            refusal = λ e. absurd (true≢false (sym e ∙ r .1));
-            flag = ap (λ (b : Bool). cond (isYes resting && b) 1 0) (sym (r .2));
+            refusal = λ e. absurd (true≢false (sym e ∙ not-eq _ (k .0)));
+            flag = ap (λ (b : Bool). cond (isYes resting && b) 1 0) (sym (same-eq _ _ (k .1)));
           }
-      go (suc k) h = record { number = member (suc k) quoteNumbers (h .0); refusal = λ e. refl; flag = rw (h .1) (no-flag (isYes resting)) }
+      go (suc k) h =
+          let r = and-both _ _ h in
+          record { number = member (suc k) quoteNumbers (r .0); refusal = λ e. refl; flag = rw (not-eq (isRejected (suc k)) (r .1)) (no-flag (isYes resting)) }
 
 pub quote-check : QuoteCheck
 quote-check st m symbol bid offer resting = quote-answers st m symbol bid offer resting
@@ -160,3 +162,7 @@ tallied-answers t a h false e =
 pub tallied-check : TalliedCheck
 unfolding checkTallied
 tallied-check t c = tallied-answers t (orderAnswer c) (order-answers c) (isBadTally t) refl
+
+pub numbered : Numbered
+unfolding all any
+numbered = record { listed = refl; given = refl; kinds = refl }

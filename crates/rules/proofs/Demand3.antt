@@ -1,13 +1,14 @@
 -- Demand 3, from the parts: the sequence is sorted away, the class bears on the worth, and no check from 20 to 24 fires at it.
 use mathlib.Core.Path.{_≡_, refl, sym, ap, _∙_, subst₂}
+use mathlib.Core.Logic.{⊎-elim}
 use mathlib.Core.List.{List, [], _∷_}
-use mathlib.Core.Bool.{Bool, true, false, not, true≢false}
+use mathlib.Core.Bool.{Bool, true, false, not, _||_, true≢false}
 use Prim.Native.Nat.{ℕ, zero, suc, _≤_}
 use native.Mathlib.Omega.{arith}
 use lib.ListN.{length}
 use lib.IntN.{ℤ, pos, negsuc, _-ℤ_}
 use lib.Signed.{_≤ℤ_}
-use borrow.Author.Tests.{le-leb}
+use borrow.Author.Tests.{eqb-true}
 use Rattle.rules.specs.declared.RawLeg.{RawLeg}
 use Rattle.rules.specs.declared.Terms.{Terms}
 use Rattle.rules.specs.declared.Order.{Order}
@@ -16,16 +17,17 @@ use Rattle.rules.specs.declared.Leg.{Leg}
 use Rattle.rules.specs.declared.Settings.{Settings}
 use Rattle.rules.specs.declared.Market.{Market}
 use Rattle.rules.specs.Limits.{within}
-use Rattle.rules.specs.Lists.{All, Perm, any}
+use Rattle.rules.specs.Lists.{All, Perm, all, any}
 use Rattle.rules.specs.Order.{isYes, Lent, lentLegs, recordLegs, priceOf, signedPrice, termsOf, legOf, legsOf, units, netWorth}
 use Rattle.rules.specs.Pairing.{byStrike, bothWalks}
 use Rattle.rules.specs.Class.{classOf}
 use Rattle.rules.specs.Fair.{Has, Fair}
-use Rattle.rules.specs.Numbers.{isBadCount, isRefusal, refusal, rejection, judged, outcome, checkLegs, checkOrder, Inputs}
+use Rattle.rules.specs.Kinds.{isAccepted, isRefused}
+use Rattle.rules.specs.Numbers.{isBadCount, refusals, refusal, rejection, judged, outcome, checkLegs, checkOrder, Inputs}
 use Rattle.rules.specs.Demand3.{IsWhole, IsValid, NotRejected, arrival, orderLegs, Arrivals, Demand3}
-use Rattle.rules.proofs.Tests.{and-both, or-neither, within-both}
+use Rattle.rules.proofs.Tests.{and-both, or-either, or-neither, within-both}
 use Rattle.rules.proofs.Sorting.{all-perm, perm-sym, map-perm, length-perm}
-use Rattle.rules.proofs.Numbering.{first-of, none-applies}
+use Rattle.rules.proofs.Numbering.{first-of, first-passes, none-applies}
 use Rattle.rules.proofs.Worth.{worth, worth-perm}
 use Rattle.rules.proofs.Units.{Sized, units-perm}
 use Rattle.rules.proofs.Signs.{worth-is, up-sign, down-sign}
@@ -47,23 +49,18 @@ counted (r ∷ rs) h =
     good false e = absurd (true≢false e)
 
 module _ (st : Settings) (m : Market) (t : Terms) (n : ℕ) (rs : List RawLeg) where
-  -- refusals are 3 to 10
-  pub refusal-small : refusal st m t n rs ≤ 10
-  unfolding refusal
-  refusal-small =
-      first-of (λ k. k ≤ 10) _ (omega arith)
-      (λ e. omega arith, (λ e. omega arith, (λ e. omega arith, (λ e. omega arith, (λ e. omega arith, (λ e. omega arith, (λ e. omega arith, (λ e. omega arith, tt))))))))
+  refusal-refuses : isAccepted (refusal st m t n rs) || isRefused (refusal st m t n rs) ≡ true
+  unfolding refusal all
+  refusal-refuses = first-passes (λ k. isAccepted k || isRefused k) (refusals st m t n rs) refl refl
 
-  -- a valid order is not refused
-  valid-judged : isRefusal (checkLegs st m t n rs .number) ≡ false → refusal st m t n rs ≡ 0
+  -- a valid order is not refused: every number of the refusals is a refusal's
+  valid-judged : isRefused (checkLegs st m t n rs .number) ≡ false → refusal st m t n rs ≡ 0
   unfolding checkLegs outcome
-  valid-judged h = go (refusal st m t n rs) refl h
+  valid-judged h = go (refusal st m t n rs) refusal-refuses h
     where
-      go : (k : ℕ) → refusal st m t n rs ≡ k → isRefusal (outcome k (judged st m t (byStrike (legsOf rs))) .number) ≡ false → k ≡ 0
+      go : (k : ℕ) → isAccepted k || isRefused k ≡ true → isRefused (outcome k (judged st m t (byStrike (legsOf rs))) .number) ≡ false → k ≡ 0
       go zero e g = refl
-      go (suc k) e g =
-          let l : suc k ≤ 10 = omega (arith, refusal-small) in
-          absurd (true≢false (sym (rw (le-leb 1 (suc k) (omega arith), le-leb (suc k) 12 (omega arith))) ∙ g))
+      go (suc k) e g = ⊎-elim (λ a. eqb-true (suc k) 0 a) (λ r. absurd (true≢false (sym r ∙ g))) (or-either _ _ e)
 
   sized : refusal st m t n rs ≡ 0 → Sized (legsOf rs)
   unfolding refusal

@@ -2,6 +2,7 @@
 pub mod Sorting
 pub mod Tests
 pub mod Numerals
+pub mod Simple
 pub mod Slices
 pub mod Symbols
 pub mod Divisor

@@ -6,7 +6,7 @@ use Prim.Native.Nat.{ℕ, suc, _≤_}
 use native.Mathlib.Omega.{arith}
 use lib.Dec.{leb}
 use borrow.Author.Tests.{leb-true}
-use Rattle.rules.specs.Lists.{All}
+use Rattle.rules.specs.Lists.{All, all}
 use Rattle.rules.proofs.Tests.{and-both}
 use Rattle.rules.specs.declared.RawLeg.{RawLeg}
 use Rattle.rules.specs.declared.Terms.{Terms}
@@ -16,7 +16,7 @@ use Rattle.rules.specs.declared.Series.{Series}
 use Rattle.rules.specs.declared.Settings.{Settings}
 use Rattle.rules.specs.declared.Market.{Market}
 use Rattle.rules.specs.Quote.{quoteRefusals, quoteRefusal, quoteRejections, quoteRejection}
-use Rattle.rules.specs.Numbers.{firstOf, refusals, refusal, rejections, rejection}
+use Rattle.rules.specs.Numbers.{firstOf, named, refusals, refusal, rejections, rejection}
 
 pub first-of : (P : ℕ → Type 0) (es : List (Bool × ℕ)) → P 0 → All (λ e. e .0 ≡ true → P (e .1)) es → P (firstOf es)
 unfolding firstOf
@@ -26,6 +26,15 @@ first-of P (e ∷ es) z h = go (e .0) (h .0) (first-of P es z (h .1))
     go : (b : Bool) → (b ≡ true → P (e .1)) → P (firstOf es) → P (cond b (e .1) (firstOf es))
     go true f r = f refl
     go false f r = r
+
+-- what every number of the list passes, and 0, the first passes
+pub first-passes : (f : ℕ → Bool) (es : List (Bool × ℕ)) → f 0 ≡ true → all f (named es) ≡ true → f (firstOf es) ≡ true
+unfolding all
+first-passes f es z h = first-of (λ n. f n ≡ true) es z (each es h)
+  where
+    each : (ds : List (Bool × ℕ)) → all f (named ds) ≡ true → All (λ e. e .0 ≡ true → f (e .1) ≡ true) ds
+    each [] k = tt
+    each (d ∷ ds) k = let a = and-both (f (d .1)) _ k in ((λ t. a .0), each ds (a .1))
 
 -- where none applies, no test passes
 pub none-applies : (b : Bool) (n : ℕ) (es : List (Bool × ℕ)) → firstOf ((b, suc n) ∷ es) ≡ 0 → (b ≡ false) × (firstOf es ≡ 0)

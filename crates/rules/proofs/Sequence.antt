@@ -17,6 +17,7 @@ use Rattle.rules.specs.Order.{legOf, legsOf}
 use Rattle.rules.specs.Pairing.{digit, strikeKey, wholeLeg, byStrike}
 use Rattle.rules.specs.Checks.{isPositive, isNegative}
 use Rattle.rules.specs.Numbers.{isBadCount, isSameSeries, isOtherRoot, isBadPrice, refusal, outcome, judged, checkLegs}
+use Rattle.rules.proofs.Simple.{simple-same}
 use Rattle.rules.proofs.Sorting.{map-perm, length-perm, any-perm, all-test-perm, somePair-perm, sort-perm, sort-is-perm}
 
 digit-inj : (a b : Bool) → digit a ≡ digit b → a ≡ b
@@ -79,7 +80,7 @@ other-root-turn a b = ap not (eqb-turn (a .root) (b .root))
 module _ (st : Settings) (m : Market) (t : Terms) where
   bad-price-perm : {xs ys : List Leg} → Perm xs ys → isBadPrice t xs ≡ isBadPrice t ys
   unfolding isBadPrice
-  bad-price-perm p = rw (length-perm p, all-test-perm (λ l. not (cond (l .bought) (isPositive (t .price)) (isNegative (t .price)))) p)
+  bad-price-perm {xs} {ys} p = rw (simple-same t xs ys (length-perm p), all-test-perm (λ l. not (cond (l .bought) (isPositive (t .price)) (isNegative (t .price)))) p)
 
   refusal-perm : (n : ℕ) {xs ys : List RawLeg} → Perm xs ys → refusal st m t n xs ≡ refusal st m t n ys
   unfolding refusal

@@ -23,6 +23,7 @@ use Rattle.rules.specs.Pairing.{Walked, bothWalks}
 use Rattle.rules.specs.Class.{isVertical, isButterfly, hasOwnClass, isBox, shapeOf, allOf, pairClass, classWith, classOf}
 use Rattle.rules.specs.Checks.{isLimit, isPositive, isNegative, putTest, callTest, simpleBuy, sizes, isBelow, sameSideBelow, buyBuy, debitCredit, maximumOf, allowance, hasMaximum, maximumValue}
 use Rattle.rules.specs.Fair.{Has, Fair}
+use Rattle.rules.proofs.Simple.{simple-length}
 use Rattle.rules.proofs.Tests.{and-both, or-either, not-eq, passed}
 use Rattle.rules.proofs.Sorting.{all-map}
 use Rattle.rules.proofs.Worth.{worth}
@@ -190,24 +191,24 @@ module _ (st : Settings) (mk : Market) (t : Terms) (legs : List Leg) (v : Series
   simple-sound : (test : Series → Mills → Bool) → ((s : Series) (paid : Mills) → Has legs s → paid .0 ≡ v s → test s paid ≡ true → ⊥)
       → (ls : List Leg) → Hs ls → Sized ls → Priced (units ls) → simpleBuy test t (units ls) ≡ true → ⊥
   unfolding simpleBuy units all
-  simple-sound test never [] h z p e = true≢false (sym (passed _ e .0))
+  simple-sound test never [] h z p e = let one = simple-length t [] (passed _ e .0) in absurd (omega arith)
   simple-sound test never (l ∷ []) h z p e =
       let (one, (skip, (paid, (each, rest)))) = passed _ e in
       let k = and-both _ true each in
       let f = and-both (l .bought) _ (k .0) in
       never (l .series) (t .price .size) (h .0) (single l (z .0) (f .0) p) (f .1)
   simple-sound test never (l ∷ k ∷ r) h z p e =
-      let one : length (units (l ∷ k ∷ r)) ≡ 1 = eqb-true (length (units (l ∷ k ∷ r))) 1 (passed _ e .0) in
+      let one = simple-length t (units (l ∷ k ∷ r)) (passed _ e .0) in
       absurd (omega arith)
 
   pub sound20 : (ls : List Leg) → Hs ls → Sized ls → Priced (units ls) → simpleBuy putTest t (units ls) ≡ true → ⊥
   unfolding putTest
   sound20 = simple-sound putTest (λ s paid h e f. let k = and-both (not (s .call)) _ f in omega (arith, leb-true (s .strike .0) (paid .0) (k .1), fair .putBelow s h (not-eq (s .call) (k .0))))
 
-  pub sound21 : (ls : List Leg) → Hs ls → Sized ls → Priced (units ls) → simpleBuy (callTest st mk) t (units ls) ≡ true → ⊥
+  pub sound21 : (ls : List Leg) → Hs ls → Sized ls → Priced (units ls) → simpleBuy (callTest (isYes (st .adjusted)) mk) t (units ls) ≡ true → ⊥
   unfolding callTest
   sound21 =
-      simple-sound (callTest st mk)
+      simple-sound (callTest (isYes (st .adjusted)) mk)
       (λ s paid h e f. let (c, (known, (above, rest))) = passed _ f in omega (arith, leb-true (mk .underlying .0) (paid .0) above, fair .callBelow s h c (ltb-true 0 (mk .underlying .0) known)))
 
   -- legs of one side are worth at least the net increment for each contract
@@ -249,7 +250,7 @@ module _ (st : Settings) (mk : Market) (t : Terms) (legs : List Leg) (v : Series
 
   pub sound23 : (us : List Leg) (class : ℕ) → Priced us → (class ≡ 1 → S us ≤ B us) → (class ≡ 2 → B us ≤ S us) → debitCredit t us class ≡ true → ⊥
   unfolding debitCredit
-  sound23 us class p d c e = go (or-either _ _ (and-both (isComplex us) _ e .1))
+  sound23 us class p d c e = go (or-either _ _ (and-both (isComplex t us) _ e .1))
     where
       go : (every (isLimit t ∷ eqb class 1 ∷ isNegative (t .price) ∷ []) ≡ true) ⊎ (eqb class 2 && isPositive (t .price) ≡ true) → ⊥
       go (inl f) =

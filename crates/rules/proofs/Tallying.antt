@@ -7,11 +7,11 @@ use native.Mathlib.Omega.{arith}
 use borrow.Author.Tests.{eqb-true}
 use Rattle.rules.specs.declared.OrderAnswer.{OrderAnswer}
 use Rattle.rules.specs.declared.Tally.{Tally}
-use Rattle.rules.specs.Lists.{sameBool, all}
-use Rattle.rules.specs.Numbers.{isRefusal, refused}
+use Rattle.rules.specs.Lists.{all}
+use Rattle.rules.specs.Kinds.{isAccepted, isRejected, isRefused}
+use Rattle.rules.specs.Numbers.{refused}
 use Rattle.rules.specs.Demand1.{orderNumbers}
-use Rattle.rules.specs.Tally.{isBadTally, isAccepted, isRejected, isRefused, oneMore, counted, tallied, Call, orderAnswer, checkTallied, numbersOf, tallyAfter, fresh, howMany, isTwelve, Tallies, TallyTheorem}
-use Rattle.rules.proofs.Tests.{same-eq}
+use Rattle.rules.specs.Tally.{isBadTally, oneMore, counted, tallied, Call, orderAnswer, checkTallied, numbersOf, tallyAfter, fresh, howMany, isTwelve, Tallies, TallyTheorem}
 use Rattle.rules.proofs.Demand1.{passes, order-answers}
 
 -- ---- the order check never gives 12
@@ -124,9 +124,5 @@ keeps-sum t c h = go (isBadTally t) refl
     go true e = rw (bad-call t c e .1) h
     go false e = rw (counted-call t c e .1) (sum-of t (orderAnswer c .number) h)
 
-refusals-refused : (c : Call) → isRefused (orderAnswer c .number) ≡ isRefusal (orderAnswer c .number)
-unfolding all
-refusals-refused c = same-eq _ _ (passes (λ n. sameBool (isRefused n) (isRefusal n)) _ orderNumbers refl (order-answers c .number))
-
 pub tally-theorem : TallyTheorem
-tally-theorem = record { lists = tallies; same = same-number; kinds = refusals-refused; sum = keeps-sum }
+tally-theorem = record { lists = tallies; same = same-number; sum = keeps-sum }

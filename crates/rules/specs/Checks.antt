@@ -31,13 +31,13 @@ unfoldable pub putTest : Series → Mills → Bool
 putTest s paid = not (s .call) && leb (s .strike .0) (paid .0)
 
 -- "21 call: simple buy of a call, price at or above the underlying's last value; not if that is missing, in an adjusted class, or in extended hours."
-unfoldable pub callTest : Settings → Market → Series → Mills → Bool
-callTest st m s paid =
+unfoldable pub callTest : Bool → Market → Series → Mills → Bool
+callTest adjusted m s paid =
     every
     (s .call
     ∷ ltb 0 (m .underlying .0)
     ∷ leb (m .underlying .0) (paid .0)
-    ∷ not (isYes (st .adjusted))
+    ∷ not adjusted
     ∷ not (isYes (m .extended))
     ∷ [])
 
@@ -49,7 +49,7 @@ isSkipped t = isMarket t && isYes (t .opening)
 unfoldable pub simpleBuy : (Series → Mills → Bool) → Terms → List Leg → Bool
 simpleBuy test t us =
     every
-    (isSimple us
+    (isSimple t us
     ∷ not (isSkipped t)
     ∷ not (t .price .received)
     ∷ all (λ u. u .bought && test (u .series) (t .price .size)) us
@@ -67,12 +67,12 @@ unfoldable pub sameSideBelow : Settings → Terms → List Leg → Bool → Bool
 sameSideBelow st t us side = all (λ u. sameBool side (u .bought)) us && isBelow side (t .price) (sizes us * st .increment .0)
 
 unfoldable pub buyBuy : Settings → Terms → List Leg → Bool
-buyBuy st t us = every (isComplex us ∷ isLimit t ∷ (sameSideBelow st t us true || sameSideBelow st t us false) ∷ [])
+buyBuy st t us = every (isComplex t us ∷ isLimit t ∷ (sameSideBelow st t us true || sameSideBelow st t us false) ∷ [])
 
 -- "23 debit/credit: complex limit order, a debit with negative price or a credit with positive; complex market order, only a credit with positive price."
 unfoldable pub debitCredit : Terms → List Leg → ℕ → Bool
 debitCredit t us class =
-    isComplex us && (every (isLimit t ∷ eqb class 1 ∷ isNegative (t .price) ∷ []) || eqb class 2 && isPositive (t .price))
+    isComplex t us && (every (isLimit t ∷ eqb class 1 ∷ isNegative (t .price) ∷ []) || eqb class 2 && isPositive (t .price))
 
 -- "M is the strike difference (true butterfly: middle less lowest)." Only shapes 1, 2 and 4 are asked; of two strikes one difference is 0.
 unfoldable pub maximumOf : List Leg → ℕ

@@ -15,7 +15,8 @@ use Rattle.rules.specs.declared.OrderAnswer.{OrderAnswer}
 use Rattle.rules.specs.Lists.{All, Perm}
 use Rattle.rules.specs.Order.{Lent, symbolsOf, countsOf, lentLegs, recordLegs, signedPrice, legsOf, netWorth}
 use Rattle.rules.specs.Fair.{Fair}
-use Rattle.rules.specs.Numbers.{isRefusal, checkOrder, areWhole, Inputs, answerTo}
+use Rattle.rules.specs.Kinds.{isRefused}
+use Rattle.rules.specs.Numbers.{checkOrder, areWhole, Inputs, answerTo}
 
 -- an arrival of legs; both are "alike in price, kind, flags, settings, market and all else"
 abbrev pub arrival : Inputs → List Lent → OrderAnswer
@@ -27,7 +28,7 @@ IsWhole l = (length (l .symbol) ≡ 21) × (length (l .count) ≡ 8)
 
 -- "An order not refused is valid."
 abbrev pub IsValid : OrderAnswer → Type 0
-IsValid r = isRefusal (r .number) ≡ false
+IsValid r = isRefused (r .number) ≡ false
 
 -- the legs of the order, as read
 abbrev pub orderLegs : List Lent → List Leg

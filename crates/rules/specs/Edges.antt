@@ -8,6 +8,7 @@ use lib.IntN.{ℤ, pos, negℤ}
 use Rattle.rules.specs.declared.Mills.{Mills}
 use Rattle.rules.specs.declared.SymbolParts.{SymbolParts}
 use Rattle.rules.specs.declared.SymbolRead.{SymbolRead}
+use Rattle.rules.specs.declared.Price.{Price}
 use Rattle.rules.specs.declared.Terms.{Terms}
 use Rattle.rules.specs.declared.Settings.{Settings}
 use Rattle.rules.specs.declared.Market.{Market}
@@ -17,9 +18,9 @@ use Rattle.rules.specs.declared.Tally.{Tally}
 use Rattle.rules.specs.Lists.{All, Perm}
 use Rattle.rules.specs.Numerals.{numeral}
 use Rattle.rules.specs.Symbol.{symbolOf, readSymbol, writeSymbol, SymbolWritten}
-use Rattle.rules.specs.Order.{Lent, symbolsOf, countsOf, termsOf}
+use Rattle.rules.specs.Order.{rawLeg, Lent, symbolsOf, countsOf, termsOf}
 use Rattle.rules.specs.Market.{settingsOf, marketOf, settingsHold, marketHolds}
-use Rattle.rules.specs.Numbers.{checkSlices}
+use Rattle.rules.specs.Numbers.{checkOrder, checkSlices}
 use Rattle.rules.specs.Quote.{checkQuote}
 use Rattle.rules.specs.Tally.{isBadTally, counted, fresh}
 use Rattle.rules.specs.Examples.{exampleSettings, exampleMarket, bits, calls, puts}
@@ -131,6 +132,17 @@ changed i n ns = take i ns ++ (n ∷ drop (suc i) ns)
 -- the numbers of the examples' settings
 abbrev exampleNumbers : List ℕ
 exampleNumbers = 1 ∷ 1 ∷ 1 ∷ 1 ∷ 1 ∷ 1 ∷ 1 ∷ 10 ∷ 10 ∷ 10 ∷ 5 ∷ 5 ∷ 5 ∷ 5 ∷ 300 ∷ 0 ∷ 600 ∷ 4 ∷ 0 ∷ 0 ∷ []
+
+-- European index style: expiries alone are not paired; a vertical is, and beside it a calendar of two loners
+abbrev spread : List Lent
+spread = vertical ++ (lentOf (pos 1) (parts xyz 2027 6 18 67 40000) ∷ lentOf (minus 1) (parts xyz 2027 3 19 67 40000) ∷ [])
+
+abbrev styles : List (OrderAnswer × OrderAnswer)
+styles =
+    (asked (exampleSettings 2) exampleMarket (limit (pos 5000)) vertical, answers 0 1 1 1)
+    ∷ (asked (exampleSettings 2) exampleMarket (limit (pos 5000)) spread, answers 0 0 0 1)
+    ∷ (asked usual exampleMarket (limit (pos 5000)) spread, answers 0 1 0 2)
+    ∷ []
 
 -- the market with an underlying value only
 abbrev underlyingOf : ℕ → Market
@@ -359,6 +371,23 @@ leastNumbers = 0 ∷ 0 ∷ 0 ∷ 0 ∷ 0 ∷ 0 ∷ 0 ∷ 1 ∷ 1 ∷ 1 ∷ 2 ∷
 abbrev mostNumbers : List ℕ
 mostNumbers = 0 ∷ 0 ∷ 0 ∷ 0 ∷ 0 ∷ 0 ∷ 0 ∷ 1000 ∷ 1000 ∷ 1000 ∷ 1000 ∷ 1000 ∷ 1000 ∷ 1000 ∷ 10000 ∷ 1000000 ∷ 1000000 ∷ 1000 ∷ 9 ∷ 9 ∷ []
 
+abbrev call : List ℕ
+call = calls (pos 1) 20 .symbol
+
+abbrev put : List ℕ
+put = puts (pos 1) 20 .symbol
+
+-- the order record of one leg sold, where zero may come as received: it is neither sign
+abbrev soldAt : Price → ℕ
+soldAt price = checkOrder usual exampleMarket (record { legs = rawLeg call (calls (minus 1) 20 .count) ∷ []; len = 1; terms = record { price = price; kind = 0; stop = 0; manual = 0; opening = 0 } }) .number
+
+abbrev zeros : List (ℕ × ℕ)
+zeros =
+    (soldAt (record { received = true; size = record { 0 = 1 } }), 0)
+    ∷ (soldAt (record { received = true; size = record { 0 = 0 } }), 8)
+    ∷ (soldAt (record { received = false; size = record { 0 = 0 } }), 8)
+    ∷ []
+
 -- each setting at its least, below it, at its most and above it; the minimum above the maximum; one setting too few, one too many
 abbrev settings : List (Bool × Bool)
 settings =
@@ -403,12 +432,6 @@ markets =
 
 abbrev quote : Settings → Market → List ℕ → ℕ → ℕ → ℕ → QuoteAnswer
 quote st m symbol bid offer resting = checkQuote st m symbol (record { 0 = bid }) (record { 0 = offer }) resting
-
-abbrev call : List ℕ
-call = calls (pos 1) 20 .symbol
-
-abbrev put : List ℕ
-put = puts (pos 1) 20 .symbol
 
 abbrev quoted : Market → ℕ → ℕ → ℕ
 quoted m bid offer = quote usual m call bid offer 0 .number
@@ -535,6 +558,7 @@ writings =
     (writeSymbol (parts 0 0 0 0 0 0) (1 ∷ 2 ∷ []), record { number = 2; handed = 0; buffer = 1 ∷ 2 ∷ [] })
     ∷ (writeSymbol (parts xyz 2027 1 15 67 20000) (take 20 call), record { number = 2; handed = 0; buffer = take 20 call })
     ∷ (writeSymbol (parts xyz 2027 13 15 67 20000) (7 ∷ call), record { number = 4; handed = 0; buffer = 7 ∷ call })
+    ∷ (writeSymbol (parts xyz 2027 1 15 67 20000) (take 21 (bytes 83 80 88 32 32 32 80 48)), record { number = 0; handed = 21; buffer = call })
     ∷ (writeSymbol (parts 91604540989472 2014 11 22 80 19500) (call ++ (7 ∷ 8 ∷ [])), record { number = 0; handed = 21; buffer = bytes 83 80 88 32 32 32 80 48 ++ (7 ∷ 8 ∷ []) })
     ∷ []
 
@@ -571,6 +595,7 @@ values =
 pub record Edges : Type 0 where
   pub shape : Hold shapes
   pub expiry : Hold expiries
+  pub style : Hold styles
   pub simple : Hold paid
   pub complex : Hold sides
   pub maximum : Hold maxima
@@ -581,6 +606,7 @@ pub record Edges : Type 0 where
   pub switch : Hold switches
   pub refusal : Hold sequence
   pub limited : Hold limits
+  pub unsigned : Hold zeros
   pub settingsRecord : Hold handed
   pub marketRecord : Hold values
   pub settingsLimits : Hold settings

@@ -67,7 +67,7 @@ abbrev pub FairMoves : Type 0
 FairMoves =
     (st : Settings) (m : Market) (legs : List Leg) (forward : ℕ) (carry : ℕ → ℕ) →
     ((e : ℕ) → st .increment .0 ≤ carry e) →
-    ((d e : ℕ) → d < e → carry d ≤ carry e) →
+    (isYes (st .european) ≡ false → (d e : ℕ) → d < e → carry d ≤ carry e) →
     ((s : Series) → Has legs s → s .call ≡ false → (carry (s .expiry) < forward) × (carry (s .expiry) < s .strike .0)) →
     ((s : Series) → Has legs s → s .call ≡ true → 0 < m .underlying .0 → intrinsic forward carry s < m .underlying .0) →
     Fair st m legs (intrinsic forward carry)

@@ -10,6 +10,7 @@ pub mod Class
 pub mod Checks
 pub mod Fair
 pub mod Market
+pub mod Kinds
 pub mod Numbers
 pub mod Quote
 pub mod Tally

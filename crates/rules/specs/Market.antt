@@ -89,7 +89,7 @@ isTooFar st m t u =
 unfoldable pub tickDistance : Settings → Market → Terms → List Leg → Bool
 tickDistance st m t us =
     every
-    (isSimple us
+    (isSimple t us
     ∷ isLimit t
     ∷ not (isYes (t .stop))
     ∷ not (isYes (t .manual))

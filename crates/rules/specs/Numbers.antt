@@ -26,6 +26,11 @@ unfoldable pub firstOf : List (Bool × ℕ) → ℕ
 firstOf [] = 0
 firstOf (e ∷ es) = cond (e .0) (e .1) (firstOf es)
 
+-- the numbers of such a list
+abbrev pub named : List (Bool × ℕ) → List ℕ
+named [] = []
+named (e ∷ es) = e .1 ∷ named es
+
 -- "1 to 10,000 in size"
 abbrev pub isBadCount : RawLeg → Bool
 isBadCount r = not (within 1 10000 (r .size))
@@ -45,7 +50,7 @@ isOtherRoot a b = not (eqb (a .root) (b .root))
 unfoldable pub isBadPrice : Terms → List Leg → Bool
 isBadPrice t ls =
     ltb 1000000000000 (t .price .size .0)
-    || isSimple ls && all (λ l. not (cond (l .bought) (isPositive (t .price)) (isNegative (t .price)))) ls
+    || isSimple t ls && all (λ l. not (cond (l .bought) (isPositive (t .price)) (isNegative (t .price)))) ls
 
 -- "3 no leg or above 16; 4 a symbol or its parts outside the layout; 5 a count outside its limits; 6 a series twice; 7 roots differ; 8 price too large, or [..]"; "9 one outside its limits"; "10 a market value or phase outside its limits". `n` is the number of legs.
 abbrev pub refusals : Settings → Market → Terms → ℕ → List RawLeg → List (Bool × ℕ)
@@ -68,7 +73,7 @@ refusal st m t n rs = firstOf (refusals st m t n rs)
 abbrev pub rejections : Settings → Market → Terms → List Leg → ℕ → List (Bool × ℕ)
 rejections st m t us class =
     (isYes (st .check20) && simpleBuy putTest t us, 20)
-    ∷ (isYes (st .check21) && simpleBuy (callTest st m) t us, 21)
+    ∷ (isYes (st .check21) && simpleBuy (callTest (isYes (st .adjusted)) m) t us, 21)
     ∷ (isYes (st .check22) && buyBuy st t us, 22)
     ∷ (isYes (st .check23) && debitCredit t us class, 23)
     ∷ (isYes (st .check24) && maximumValue st t us, 24)
@@ -85,10 +90,6 @@ judged st m t ls =
     let w = bothWalks (isYes (st .european)) ls in
     let class = classOf us w in
     record { number = rejection st m t us class; class = class; shape = shapeOf us; pairings = length (w .pairs) }
-
--- Number and its author: "1 to 12" are the refusals
-abbrev pub isRefusal : ℕ → Bool
-isRefusal n = within 1 12 n
 
 -- "1 to 12 return zeros elsewhere"
 abbrev pub refused : ℕ → OrderAnswer

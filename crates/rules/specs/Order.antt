@@ -3,7 +3,7 @@ use mathlib.Core.List.{List, [], _∷_, _++_, map}
 use mathlib.Core.Bool.{Bool, true, false, cond, not}
 use Prim.Native.Nat.{ℕ, zero, suc, _+_, _-_, _*_, _/_, _%_, _^_}
 use lib.ListN.{length, take, drop}
-use lib.Dec.{eqb, leb, ltb}
+use lib.Dec.{eqb, ltb}
 use lib.IntN.{ℤ, pos, negsuc, negℤ, _+ℤ_, _*ℤ_}
 use Rattle.rules.specs.declared.RawLeg.{RawLeg}
 use Rattle.rules.specs.declared.Price.{Price}
@@ -109,12 +109,12 @@ divided g l = record { root = l .root; series = l .series; bought = l .bought; s
 unfoldable pub units : List Leg → List Leg
 units ls = map (divided (commonDivisor ls)) ls
 
--- "One leg is a simple order, two or more a complex order."
-abbrev pub isSimple : List Leg → Bool
-isSimple ls = eqb (length ls) 1
+-- "One leg is a simple order, two or more a complex order."; an order of no leg is refused
+unfoldable pub isSimple : Terms → List Leg → Bool
+isSimple t ls = eqb (length ls) 1
 
-abbrev pub isComplex : List Leg → Bool
-isComplex ls = leb 2 (length ls)
+abbrev pub isComplex : Terms → List Leg → Bool
+isComplex t ls = not (isSimple t ls)
 
 -- "Net worth under a premium table is the sum of unit count times premium, signs kept."
 abbrev pub signed : Leg → ℤ

@@ -60,7 +60,7 @@ quoteRefusal st m symbol bid offer = firstOf (quoteRefusals st m symbol bid offe
 abbrev pub quoteRejections : Settings → Market → Series → Mills → Mills → List (Bool × ℕ)
 quoteRejections st m s bid offer =
     (isYes (st .check20) && putTest s bid, 20)
-    ∷ (isYes (st .check21) && callTest st m s bid, 21)
+    ∷ (isYes (st .check21) && callTest (isYes (st .adjusted)) m s bid, 21)
     ∷ (isYes (st .check26) && quoteInversion st m bid offer, 26)
     ∷ []
 

@@ -7,22 +7,12 @@ use lib.Dec.{eqb, leb}
 use Rattle.rules.specs.declared.OrderAnswer.{OrderAnswer}
 use Rattle.rules.specs.declared.Tally.{Tally}
 use Rattle.rules.specs.declared.TalliedAnswer.{TalliedAnswer}
-use Rattle.rules.specs.Limits.{within}
-use Rattle.rules.specs.Numbers.{isRefusal, refused, Inputs, answerTo}
+use Rattle.rules.specs.Kinds.{isAccepted, isRejected, isRefused}
+use Rattle.rules.specs.Numbers.{refused, Inputs, answerTo}
 
 -- "12 a tally that has seen 1,000,000 or more, or whose seen is not refused, accepted and rejected together": the true sum, not that of a word
 unfoldable pub isBadTally : Tally → Bool
 isBadTally t = leb 1000000 (t .seen) || not (eqb (t .seen) (t .refused + t .accepted + t .rejected))
-
--- 0 accepts, 20 to 26 are a check's rejections, any other number is a refusal
-abbrev pub isAccepted : ℕ → Bool
-isAccepted n = eqb n 0
-
-abbrev pub isRejected : ℕ → Bool
-isRejected n = within 20 26 n
-
-abbrev pub isRefused : ℕ → Bool
-isRefused n = not (isAccepted n || isRejected n)
 
 -- one more where the test holds
 abbrev pub oneMore : Bool → ℕ → ℕ
@@ -86,7 +76,5 @@ pub record TallyTheorem : Type 0 where
   pub lists : (cs : List Call) → Tallies cs
   -- "A tallied check gives the same number"
   pub same : (t : Tally) (c : Call) → (checkTallied t c .answer .number ≡ 12 → ⊥) → checkTallied t c .answer ≡ orderAnswer c
-  -- the kinds are document 01's: what is no refusal is accepted or rejected, so every number of a check is counted as rejected
-  pub kinds : (c : Call) → isRefused (orderAnswer c .number) ≡ isRefusal (orderAnswer c .number)
   -- the tally keeps its own sum
   pub sum : (t : Tally) (c : Call) → t .seen ≡ t .refused + t .accepted + t .rejected → let u = checkTallied t c .tally in u .seen ≡ u .refused + u .accepted + u .rejected
