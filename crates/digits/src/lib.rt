@@ -2,7 +2,7 @@
 use choice::wide;
 ghost use mathlib.Core.Path.{_≡_};
 ghost use mathlib.Core.List.{[], _∷_};
-ghost use Prim.Native.Nat.{_+_, _-_, _≤_, _<_};
+ghost use Prim.Native.Nat.{_+_, _-_, _*_, _^_, _≤_, _<_};
 ghost use lib.ListN.{length};
 ghost use lib.Seq.{slice};
 ghost use Rattle.rules.specs.Numerals.{value, areDigits};
@@ -34,6 +34,20 @@ fn digit(b: u8) -> u64
         return 0;
     }
     wide(b - 48)
+}
+
+// The number that the bytes from `at` up to `to` say as digits; of other bytes, some number. The bound counts 207 for each byte.
+pub fn number(s: &[u8], at: usize, to: usize) -> u64
+    requires { ⌜ (at ≤ to) × (to ≤ length (now s)) × (to ≤ at + 15) ⌝ }
+    ensures { λ r. ⌜ (r ≡ value 10 48 (slice at to (now (s .entry)))) × (r + 23 ≤ 23 * 10 ^ (to - at)) ⌝ }
+{
+    let mut n = 0;
+    let mut i = at;
+    while i < to {
+        n = n * 10 + digit(s[i]);
+        i += 1;
+    }
+    n
 }
 
 // The number of two digits.
