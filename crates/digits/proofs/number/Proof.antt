@@ -36,8 +36,9 @@ done s to n i e = rw (e, slice-empty to s) (omega (arith, pow-zero 10))
 bound : (n m k : ℕ) → n + 23 ≤ 23 * 10 ^ k → m < n * 10 + 208 → m + 23 ≤ 23 * 10 ^ suc k
 bound n m k h l = omega (arith, pow-suc 10 k)
 
-room : (n k : ℕ) → n + 23 ≤ 23 * 10 ^ k → k < 15 → n < 23 * 10 ^ 14
-room n k h l = omega (arith, pow-le-pow-right {n = 10} (omega arith) {i = k} {j = 14} (omega arith))
+-- up to the seventeenth byte
+room : (n k : ℕ) → n + 23 ≤ 23 * 10 ^ k → k < 17 → n < 23 * 10 ^ 16
+room n k h l = omega (arith, pow-le-pow-right {n = 10} (omega arith) {i = k} {j = 16} (omega arith))
 
 loop-holds : tie.Need-loop-holds Inv-loop μ-loop
 loop-holds c = (search needs, rw (sub-self (c .before .args .at)) (search needs), search needs, search needs)

@@ -1,13 +1,26 @@
 use native.Mathlib.Omega.{arith}
-use Rattle.symbol.proofs.Laws.{parts-read}
+use Rattle.symbol.proofs.Laws.{root-bytes}
+use Rattle.rules.specs.Symbol.{partsOf}
 use borrow.Author.Needs.{needs}
 use Rattle.symbol.proofs.parts_of.Statement.{statement}
 use Rattle.symbol.proofs.parts_of.Tie as tie
 
 returns : tie.Need-returns
-returns c =
-    let root = c .before .before .before .before .before .before .root-of .ensures in
-    (parts-read _ (omega arith) root (omega arith) (omega arith) (omega arith) (omega arith) (omega arith), omega arith, omega arith, omega arith)
+unfolding partsOf
+returns c = (
+  rw (
+    root-bytes (c .before .before .before .before .before .before .before .before .before .before .before .before .before .before .args .s .now) (omega arith),
+    c .number4 .ensures .0,
+    c .before .wide .ensures .0,
+    c .before .before .before .number3 .ensures .0,
+    c .before .before .before .before .number2 .ensures .0,
+    c .before .before .before .before .before .number .ensures .0,
+    c .before .before .before .before .before .before .root-of .ensures,
+  ),
+  omega arith,
+  omega arith,
+  omega arith,
+)
 
 pub parts-of-spec : {M : Type 1} → statement M
 parts-of-spec =
