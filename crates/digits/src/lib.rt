@@ -1,8 +1,7 @@
 // Decimal digits: tested in a slice, read as numbers, and written.
 use choice::wide;
 ghost use mathlib.Core.Path.{_≡_};
-ghost use mathlib.Core.List.{[], _∷_};
-ghost use Prim.Native.Nat.{_+_, _-_, _≤_, _<_};
+ghost use Prim.Native.Nat.{_+_, _-_, _*_, _^_, _≤_, _<_};
 ghost use lib.ListN.{length};
 ghost use lib.Seq.{slice};
 ghost use Rattle.rules.specs.Numerals.{value, areDigits};
@@ -36,20 +35,19 @@ fn digit(b: u8) -> u64
     wide(b - 48)
 }
 
-// The number of two digits.
-pub fn two(b0: u8, b1: u8) -> u64
-    ensures { λ r. ⌜ (r ≡ value 10 48 (b0 ∷ b1 ∷ [])) × (r < 2288) ⌝ }
+// The number that the bytes from `at` up to `to` say as digits; of other bytes, some number.
+// A byte counts at most 207, which is 23 times 9: the bound is 23 times as many nines.
+pub fn number(s: &[u8], at: usize, to: usize) -> u64
+    requires { ⌜ (at ≤ to) × (to ≤ length (now s)) × (to ≤ at + 15) ⌝ }
+    ensures { λ r. ⌜ (r ≡ value 10 48 (slice at to (now (s .entry)))) × (r + 23 ≤ 23 * 10 ^ (to - at)) ⌝ }
 {
-    digit(b0) * 10 + digit(b1)
-}
-
-// The number of eight digits.
-pub fn eight(b0: u8, b1: u8, b2: u8, b3: u8, b4: u8, b5: u8, b6: u8, b7: u8) -> u64
-    ensures { λ r. ⌜ r ≡ value 10 48 (b0 ∷ b1 ∷ b2 ∷ b3 ∷ b4 ∷ b5 ∷ b6 ∷ b7 ∷ []) ⌝ }
-{
-    let high = two(b0, b1) * 100 + two(b2, b3);
-    let low = two(b4, b5) * 100 + two(b6, b7);
-    high * 10000 + low
+    let mut n = 0;
+    let mut i = at;
+    while i < to {
+        n = n * 10 + digit(s[i]);
+        i += 1;
+    }
+    n
 }
 
 // A number below ten as its digit.

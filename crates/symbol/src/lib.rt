@@ -5,8 +5,7 @@ use choice::either;
 use choice::wide;
 use choice::within;
 use digits::are_digits;
-use digits::eight;
-use digits::two;
+use digits::number;
 use roots::is_root;
 use roots::root_of;
 use rules::Mills;
@@ -37,11 +36,11 @@ pub fn parts_of(s: &[u8]) -> SymbolParts
 {
     SymbolParts {
         root: root_of(s[0], s[1], s[2], s[3], s[4], s[5]),
-        year: 2000 + two(s[6], s[7]),
-        month: two(s[8], s[9]),
-        day: two(s[10], s[11]),
+        year: 2000 + number(s, 6, 8),
+        month: number(s, 8, 10),
+        day: number(s, 10, 12),
         right: wide(s[12]),
-        strike: Mills(eight(s[13], s[14], s[15], s[16], s[17], s[18], s[19], s[20])),
+        strike: Mills(number(s, 13, 21)),
     }
 }
 

@@ -39,13 +39,13 @@ unfolding areDigits
 done s i to e = rw (e, slice-empty to s)
 
 returns : tie.Need-returns Inv-loop μ-loop
-returns c = let a = c .before .before .before .before .args in let l = c .before .before .before .loop in sym (sym (l .inv .0) ∙ low (a .s .now) (l .i) (a .to) (c .before .before .loop-test .taken) (omega arith) (c .if1 .taken))
+returns c = let a = c .before .before .before .before .args in let l = c .before .before .before .loop in sym (sym (l .inv .0) ∙ low (a .s .now) (l .i) (a .to) (omega arith) (omega arith) (omega arith))
 
 returns-2 : tie.Need-returns-2 Inv-loop μ-loop
-returns-2 c = let a = c .before .before .before .before .before .args in let l = c .before .before .before .before .loop in sym (sym (l .inv .0) ∙ high (a .s .now) (l .i) (a .to) (c .before .before .before .loop-test .taken) (omega arith) (c .before .if1 .left) (c .if2 .taken))
+returns-2 c = let a = c .before .before .before .before .before .args in let l = c .before .before .before .before .loop in sym (sym (l .inv .0) ∙ high (a .s .now) (l .i) (a .to) (omega arith) (omega arith) (omega arith) (omega arith))
 
 loop-again : tie.Need-loop-again Inv-loop μ-loop
-loop-again c = let a = c .before .before .before .before .before .args in let l = c .before .before .before .before .loop in (pass (a .s .now) (l .i) (a .to) (c .before .before .before .loop-test .taken) (omega arith) (c .before .if1 .left) (c .if2 .left) ∙ l .inv .0, omega arith)
+loop-again c = let a = c .before .before .before .before .before .args in let l = c .before .before .before .before .loop in (pass (a .s .now) (l .i) (a .to) (omega arith) (omega arith) (omega arith) (omega arith) ∙ l .inv .0, omega arith)
 
 returns-3 : tie.Need-returns-3 Inv-loop μ-loop
 returns-3 c = let a = c .before .before .args in let l = c .before .loop in sym (sym (l .inv .0) ∙ done (a .s .now) (l .i) (a .to) (omega arith))

@@ -1,18 +1,24 @@
 use native.Mathlib.Omega.{arith}
-use mathlib.Core.Path.{_∙_, ap}
-use Rattle.rules.specs.Symbol.{inLimits}
-use Rattle.symbol.proofs.Laws.{symbol-read}
+use Rattle.rules.specs.Symbol.{isSymbol}
+use Rattle.symbol.proofs.Laws.{root-bytes}
 use borrow.Author.Needs.{needs}
 use Rattle.symbol.proofs.is_symbol.Statement.{statement}
 use Rattle.symbol.proofs.is_symbol.Tie as tie
 
 returns : tie.Need-returns
+unfolding isSymbol
 returns c =
-    let limits = c .before .in-limits .ensures ∙ ap inLimits (c .before .before .before .before .before .before .before .before .before .before .before .before .before .before .pre .1) in
-    let strike = c .before .before .before .are-digits2 .ensures in
-    let expiry = c .before .before .before .before .before .are-digits .ensures in
-    let root = c .before .before .before .before .before .before .is-root .ensures in
-    symbol-read _ (omega arith) root expiry strike limits (c .before .before .before .before .both .ensures) (c .before .before .both2 .ensures) (c .both3 .ensures)
+    rw (
+      root-bytes (c .before .before .before .before .before .before .before .before .before .before .before .before .before .before .args .s .now) (omega arith),
+      c .both3 .ensures,
+      c .before .in-limits .ensures,
+      c .before .before .before .before .before .before .before .before .before .before .before .before .before .before .pre .1,
+      c .before .before .both2 .ensures,
+      c .before .before .before .are-digits2 .ensures,
+      c .before .before .before .before .both .ensures,
+      c .before .before .before .before .before .are-digits .ensures,
+      c .before .before .before .before .before .before .is-root .ensures,
+    )
 
 pub is-symbol-spec : {M : Type 1} → statement M
 is-symbol-spec =
