@@ -235,7 +235,7 @@ static inline int64_t random_price(const struct made_order *m) {
     return one_in(2) ? (int64_t)size : -(int64_t)size;
 }
 
-/* A valid order: no number of 1 to 10 applies. */
+/* A valid order: no refusal applies. */
 static inline struct made_order random_order(size_t legs) {
     struct made_order m = no_legs();
     random_legs(&m, legs);

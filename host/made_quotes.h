@@ -54,8 +54,8 @@ static inline uint64_t random_bid(const struct opc_market *k) {
 }
 
 /*
- * A valid quote: no number of 1 to 11 applies. The exchange's own prices are often the national
- * best, since the set ticks count only there.
+ * A valid quote: no refusal applies. The exchange's own prices are often the national best, since
+ * the set ticks count only there.
  */
 static inline struct made_quote random_quote(void) {
     struct made_order order = random_order(1);

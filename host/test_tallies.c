@@ -65,14 +65,11 @@ static void expect_counted(const struct made_order *made, struct opc_tally *tall
     struct opc_order order = lend(made);
     struct opc_answer untallied = opc_answer_order(&order, &made->settings, &made->market);
     struct opc_tally expected = *tally;
+    uint64_t *const by_outcome[] = {[OPC_OUTCOME_ACCEPTED] = &expected.accepted,
+                                    [OPC_OUTCOME_REFUSED] = &expected.refused,
+                                    [OPC_OUTCOME_REJECTED] = &expected.rejected};
     expected.seen++;
-    if (untallied.number == OPC_ACCEPTED) {
-        expected.accepted++;
-    } else if (untallied.number >= OPC_CHECK_PUT) {
-        expected.rejected++;
-    } else {
-        expected.refused++;
-    }
+    ++*by_outcome[opc_outcome_of(untallied.number)];
     struct opc_answer a = answer(made, tally);
     expect(same_answer(&a, &untallied), "another answer than the order check's");
     expect(same_tally(tally, &expected), "another tally than expected");
@@ -100,7 +97,7 @@ static void two_calls(struct made_order *m, int64_t first, int64_t second, int64
     m->price = price;
 }
 
-/* An order that the order check gives this number, of 0, the refusals, and 20 to 25. */
+/* An order that the order check gives this number, of those it can give. */
 static struct made_order order_given(uint64_t number) {
     struct made_order m = random_order(OPC_MOST_LEGS);
     switch (number) {
