@@ -8,8 +8,10 @@
 #ifndef LENT_BYTES_H
 #define LENT_BYTES_H
 
+#include "expect.h"
 #include "made_orders.h"
 
+#include <errno.h>
 #include <stdlib.h>
 #include <sys/mman.h>
 #include <unistd.h>
@@ -23,7 +25,7 @@ static inline uint8_t *forbidden_page(void) {
     int private_memory = MAP_PRIVATE | MAP_ANONYMOUS;
     uint8_t *pages = mmap(NULL, 2 * page, PROT_READ | PROT_WRITE, private_memory, -1, 0);
     if (pages == MAP_FAILED || mprotect(pages + page, page, PROT_NONE) != 0) {
-        perror("lent_bytes: a forbidden page");
+        fprintf(stderr, "%s: no forbidden page: %s\n", test_name, strerror(errno));
         exit(2);
     }
     return pages + page;
