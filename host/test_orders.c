@@ -1,6 +1,6 @@
 /*
- * Holds the order check to exact answers, and its inline wrapper to the raw entry. Exit status 1
- * and a message on the first failure, one line with the number of checks otherwise.
+ * Holds the order check to exact answers. Exit status 1 and a message on the first failure, one
+ * line with the number of checks otherwise.
  */
 #define _DEFAULT_SOURCE /* for lent_bytes.h */
 #include "answers.h"
@@ -25,14 +25,14 @@ static void print_tried(void) {
     }
     fprintf(stderr, "\n  price: %" PRId64 "\n", now.price);
     print_numbers("kind, stop, manual, opening", flags, COUNT(flags));
-    print_terms(&now.settings, &now.market);
+    print_terms(&now.settings, now.settings_len, &now.market, now.market_len);
 }
 
-static struct opc_answer raw_answer(const struct opc_order *o, const struct opc_settings *s,
-                                    const struct opc_market *m, uint64_t garbage) {
+static struct opc_answer raw_answer(const struct opc_order *o, const struct lent_terms *t,
+                                    uint64_t garbage) {
     struct opc_answer a = {garbage, garbage, garbage, garbage};
-    a.number = opc_check_order(EACH_OF_ORDER(o), EACH_OF_SETTINGS(s), EACH_OF_MARKET(m), &a.class_,
-                               &a.shape, &a.pairings);
+    a.number =
+        opc_check_order(EACH_OF_ORDER(o), EACH_OF_TERMS(t), &a.class_, &a.shape, &a.pairings);
     return a;
 }
 
@@ -54,23 +54,24 @@ static void expect_limits(const struct opc_answer *a, size_t legs) {
 }
 
 /*
- * Asks the entry and the wrapper, and sees that the lent bytes and those before them are kept. The
- * entry is asked twice with different garbage in its lent numbers, so one that it left unset shows.
+ * Asks the entry, and sees that the slices and the bytes before them are kept. It is asked twice
+ * with different garbage in its lent numbers, so one that it left unset shows.
  */
 static struct opc_answer answer(const struct made_order *made) {
     static struct lent_bytes symbols, counts;
+    static struct lent_terms terms;
     struct opc_order order = lend(made);
     uint64_t garbage = next_random();
     now = *made;
     order.symbols = lend_bytes(&symbols, made->symbols, made->symbols_len);
     order.counts = lend_bytes(&counts, made->counts, made->counts_len);
-    struct opc_answer raw = raw_answer(&order, &made->settings, &made->market, garbage);
-    struct opc_answer again = raw_answer(&order, &made->settings, &made->market, ~garbage);
-    struct opc_answer wrapped = opc_answer_order(&order, &made->settings, &made->market);
+    lend_terms(&terms, &made->settings, made->settings_len, &made->market, made->market_len);
+    struct opc_answer raw = raw_answer(&order, &terms, garbage);
+    struct opc_answer again = raw_answer(&order, &terms, ~garbage);
     expect(same_answer(&raw, &again), "a lent number is not set");
-    expect(same_answer(&raw, &wrapped), "the wrapper gives another answer");
     expect(are_kept(&symbols), "a symbol byte is not kept");
     expect(are_kept(&counts), "a count byte is not kept");
+    expect(terms_are_kept(&terms), "a setting or a market value is not kept");
     expect_limits(&raw, legs_of(made));
     return raw;
 }
@@ -315,6 +316,8 @@ static void test_limits(void) {
     expect_setting_limits(expect_order, &m, &m.settings);
     m = vertical(1000);
     expect_market_limits(expect_order, &m, &m.market);
+    m = vertical(1000);
+    expect_lengths(expect_order, &m, &m.settings_len, &m.market_len);
 }
 
 /* An order for each check, rejected with its switch at any value but 0. */

@@ -1,6 +1,6 @@
 /*
- * Holds the quote check to exact answers, and its inline wrapper to the raw entry. Exit status 1
- * and a message on the first failure, one line with the number of checks otherwise.
+ * Holds the quote check to exact answers. Exit status 1 and a message on the first failure, one
+ * line with the number of checks otherwise.
  */
 #define _DEFAULT_SOURCE /* for lent_bytes.h */
 #include "answers.h"
@@ -27,36 +27,37 @@ static void print_tried(void) {
     const uint64_t prices[] = {now.bid, now.offer, now.resting};
     fprintf(stderr, "  symbol: %.*s\n", (int)now.symbol_len, (const char *)now.symbol);
     print_numbers("bid, offer, resting", prices, COUNT(prices));
-    print_terms(&now.settings, &now.market);
+    print_terms(&now.settings, now.settings_len, &now.market, now.market_len);
 }
 
 static bool same(const struct opc_quote_answer *a, const struct opc_quote_answer *b) {
     return a->number == b->number && a->cancel == b->cancel;
 }
 
-static struct opc_quote_answer raw_answer(const struct opc_quote *q, const struct opc_settings *s,
-                                          const struct opc_market *m, uint64_t garbage) {
+static struct opc_quote_answer raw_answer(const struct opc_quote *q, const struct lent_terms *t,
+                                          uint64_t garbage) {
     struct opc_quote_answer a = {garbage, garbage};
-    a.number = opc_check_quote(EACH_OF_QUOTE(q), EACH_OF_SETTINGS(s), EACH_OF_MARKET(m), &a.cancel);
+    a.number = opc_check_quote(EACH_OF_QUOTE(q), EACH_OF_TERMS(t), &a.cancel);
     return a;
 }
 
 /*
- * Asks the entry and the wrapper, and sees that the lent bytes and those before them are kept. The
- * entry is asked twice with different garbage in its lent number, so that it shows if it is unset.
+ * Asks the entry, and sees that the slices and the bytes before them are kept. It is asked twice
+ * with different garbage in its lent number, so that it shows if it is unset.
  */
 static uint64_t number_of(const struct made_quote *made) {
     static struct lent_bytes symbol;
+    static struct lent_terms terms;
     struct opc_quote quote = lend_quote(made);
     uint64_t garbage = next_random();
     now = *made;
     quote.symbol = lend_bytes(&symbol, made->symbol, made->symbol_len);
-    struct opc_quote_answer raw = raw_answer(&quote, &made->settings, &made->market, garbage);
-    struct opc_quote_answer again = raw_answer(&quote, &made->settings, &made->market, ~garbage);
-    struct opc_quote_answer wrapped = opc_answer_quote(&quote, &made->settings, &made->market);
+    lend_terms(&terms, &made->settings, made->settings_len, &made->market, made->market_len);
+    struct opc_quote_answer raw = raw_answer(&quote, &terms, garbage);
+    struct opc_quote_answer again = raw_answer(&quote, &terms, ~garbage);
     expect(same(&raw, &again), "the cancel flag is not set");
-    expect(same(&raw, &wrapped), "the wrapper gives another answer");
     expect(are_kept(&symbol), "a symbol byte is not kept");
+    expect(terms_are_kept(&terms), "a setting or a market value is not kept");
     expect(is_known(raw.number), "a number that is not documented");
     bool is_rejected = opc_outcome_of(raw.number) == OPC_OUTCOME_REJECTED;
     expect(raw.cancel == (is_rejected && made->resting != 0), "the cancel flag");
@@ -165,6 +166,7 @@ static void test_market_limits(void) {
     struct made_quote q = one_quote();
     switch_off(&q.settings); /* so that the limits of a value are accepted */
     expect_market_limits(expect_quote, &q, &q.market);
+    expect_lengths(expect_quote, &q, &q.settings_len, &q.market_len);
 }
 
 /*
