@@ -6,9 +6,7 @@ use Prim.Native.Nat.{ℕ, zero, suc, _+_, _-_, _*_, _<_, _≤_}
 use native.Mathlib.Omega.{arith}
 use native.Mathlib.Nat.{mul-le-mul, not-suc-le-zero}
 use lib.ListN.{length, take, drop, getD}
-use lib.Seq.{length-take-le}
 use lib.Dec.{eqb}
-use borrow.Author.Tests.{le-leb}
 use Rattle.rules.specs.declared.Terms.{Terms}
 use Rattle.rules.specs.declared.Leg.{Leg}
 use Rattle.rules.specs.declared.Settings.{Settings}
@@ -17,7 +15,7 @@ use Rattle.rules.specs.Order.{isComplex}
 use Rattle.rules.specs.Checks.{sizes, isBelow, sameSideBelow, buyBuy}
 use Rattle.rules.proofs.Tests.{and-true, or-false}
 use Rattle.loops.proofs.Finding.{step, over}
-use Rattle.buy_buy.specs.Complex.{LegWithin}
+use Rattle.rules.specs.Valid.{UnitWithin}
 
 -- ---- the sum of sizes
 
@@ -30,7 +28,7 @@ module _ (d : Leg) (xs : List Leg) (n : ℕ) (fits : n ≤ length xs) where
   unfolding sizes
   sizes-end sum i h = rw (over d xs n fits i h) (omega arith)
 
-pub sizes-bound : (ls : List Leg) → All LegWithin ls → sizes ls ≤ 10000 * length ls
+pub sizes-bound : (ls : List Leg) → All UnitWithin ls → sizes ls ≤ 10000 * length ls
 unfolding sizes
 sizes-bound [] h = omega arith
 sizes-bound (l ∷ ls) h = let k = sizes-bound ls (h .1) in let b = h .0 .size in omega arith
@@ -43,23 +41,20 @@ either-side : (b : Bool) (on below : Bool → Bool)
 either-side true on below = or-false _
 either-side false on below = refl
 
-pub complex-take : (xs : List Leg) (n : ℕ) → 2 ≤ n → n ≤ length xs → isComplex (take n xs) ≡ true
-complex-take xs n h k = le-leb 2 (length (take n xs)) (omega (arith, length-take-le n xs k))
-
-buy-buy-first : (st : Settings) (t : Terms) (d : Leg) (xs : List Leg) (n : ℕ) → 2 ≤ n → n ≤ length xs
+buy-buy-first : (st : Settings) (t : Terms) (d : Leg) (xs : List Leg) (n : ℕ) → isComplex t (take n xs) ≡ true → 1 ≤ n → n ≤ length xs
     → buyBuy st t (take n xs) ≡ not (not (eqb (t .kind) 0)) && (sameSideBelow st t (take n xs) (getD xs 0 d .bought) && true)
 unfolding buyBuy every sameSideBelow all
-buy-buy-first st t d xs zero h k = absurd (not-suc-le-zero h)
-buy-buy-first st t d [] (suc n) h k = absurd (not-suc-le-zero k)
-buy-buy-first st t d (x ∷ xs) (suc n) h k =
-    rw (complex-take (x ∷ xs) (suc n) h k, either-side (x .bought) (λ side. all (λ u. sameBool side (u .bought)) (take n xs)) (λ side. isBelow side (t .price) (sizes (x ∷ take n xs) * st .increment .0)))
+buy-buy-first st t d xs zero c h k = absurd (not-suc-le-zero h)
+buy-buy-first st t d [] (suc n) c h k = absurd (not-suc-le-zero k)
+buy-buy-first st t d (x ∷ xs) (suc n) c h k =
+    rw (c, either-side (x .bought) (λ side. all (λ u. sameBool side (u .bought)) (take n xs)) (λ side. isBelow side (t .price) (sizes (x ∷ take n xs) * st .increment .0)))
 
 below-grouped : (limit on below : Bool) → cond (limit && on) below false ≡ not (not limit) && ((on && below) && true)
 below-grouped true true below = sym (and-true below)
 below-grouped true false below = refl
 below-grouped false on below = refl
 
-module _ (st : Settings) (t : Terms) (d : Leg) (xs : List Leg) (n : ℕ) (two : 2 ≤ n) (fits : n ≤ length xs) where
+module _ (st : Settings) (t : Terms) (d : Leg) (xs : List Leg) (n : ℕ) (complex : isComplex t (take n xs) ≡ true) (some : 1 ≤ n) (fits : n ≤ length xs) where
   abbrev side : Bool
   side = getD xs 0 d .bought
 
@@ -73,7 +68,7 @@ module _ (st : Settings) (t : Terms) (d : Leg) (xs : List Leg) (n : ℕ) (two : 
     buy-buy-read : buyBuy st t (take n xs) ≡ cond b below false
     unfolding sameSideBelow
     buy-buy-read =
-        buy-buy-first st t d xs n two fits
+        buy-buy-first st t d xs n complex some fits
         ∙ sym (below-grouped (eqb (t .kind) 0) one-sided below)
         ∙ ap (λ (v : Bool). cond v below false) (sym (f ∙ ap (λ (v : Bool). eqb (t .kind) 0 && v) e))
 

@@ -2,19 +2,19 @@
 use choice::both;
 use choice::choose;
 use choice::either;
-use price::is_negative;
-use price::is_positive;
 use rules::Legs;
 use rules::Price;
 use rules::Settings;
 use rules::Terms;
+use terms::is_negative;
+use terms::is_positive;
 ghost use mathlib.Core.Path.{_≡_};
 ghost use mathlib.Core.Bool.{true};
 ghost use Prim.Native.Nat.{_≤_};
 ghost use Rattle.rules.specs.Lists.{sameBool, all, All};
 ghost use Rattle.rules.specs.Order.{legsIn};
 ghost use Rattle.rules.specs.Checks.{sizes, isBelow, buyBuy};
-ghost use Rattle.buy_buy.specs.Complex.{LegWithin, ComplexOrder};
+ghost use Rattle.rules.specs.Valid.{UnitWithin, ComplexOrder};
 
 // Every leg is on this side: bought, or sold.
 fn all_on(us: Legs, side: bool) -> bool
@@ -33,7 +33,7 @@ fn all_on(us: Legs, side: bool) -> bool
 
 // The sum of unit count sizes.
 fn sizes(us: Legs) -> u64
-    requires { ⌜ (us .len ≤ 16) × All LegWithin (legsIn us) ⌝ }
+    requires { ⌜ (us .len ≤ 16) × All UnitWithin (legsIn us) ⌝ }
     ensures { λ r. ⌜ (r ≡ sizes (legsIn us)) × (r ≤ 160000) ⌝ }
 {
     let n = us.len;
@@ -58,7 +58,7 @@ fn is_below(bought: bool, p: Price, n: u64) -> bool
 
 // Check 22. Legs that are all of one side are of the first leg's.
 pub fn buy_buy(st: Settings, t: Terms, us: Legs) -> bool
-    requires { ⌜ ComplexOrder st us ⌝ }
+    requires { ⌜ ComplexOrder st t us ⌝ }
     ensures { λ r. ⌜ r ≡ buyBuy st t (legsIn us) ⌝ }
 {
     let side = us.legs[0].bought;

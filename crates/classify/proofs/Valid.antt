@@ -21,11 +21,11 @@ use Rattle.rules.proofs.Sequence.{by-strike-is-perm, same-series-turn, other-ro
 use Rattle.sorting.specs.Keys.{EachTwo}
 use Rattle.sorting.proofs.Laws.{each-two-with, each-two-fail}
 use Rattle.walk.specs.Tags.{seriesAt}
-use Rattle.tags.specs.Legs.{InRange, AllInRange}
+use Rattle.rules.specs.Valid.{InRange, IsValidLeg, AreValid, Valid}
+use Rattle.tags.specs.Legs.{AllInRange}
 use Rattle.pairing.specs.Both.{Walkable}
 use Rattle.pairing.proofs.Back.{back}
 use Rattle.pairing.proofs.Again.{series-again}
-use Rattle.classify.specs.Legs.{IsValidLeg, AreValid, Valid}
 
 -- ---- another sequence
 

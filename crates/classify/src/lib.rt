@@ -5,7 +5,8 @@ use rules::Legs;
 use sequence::by_strike;
 use shape::shape_of;
 use unit_counts::units;
-ghost use Rattle.classify.specs.Legs.{Valid, IsClassified};
+ghost use Rattle.rules.specs.Valid.{Valid};
+ghost use Rattle.classify.specs.Legs.{IsClassified};
 
 pub struct Classified {
     // The legs with their unit counts, in the first walk's sequence.

@@ -1,4 +1,5 @@
 // The order check.
+use answers::refused;
 use judge::judge;
 use order_record::are_whole;
 use order_record::order_of;
@@ -9,19 +10,7 @@ use rules::Settings;
 use rules::Terms;
 use validity::validate;
 ghost use mathlib.Core.Path.{_≡_};
-ghost use Rattle.rules.specs.Numbers.{refused, checkOrder, checkSlices};
-
-// A refusal has no class, shape or pairings.
-pub fn refused(number: u64) -> OrderAnswer
-    ensures { λ r. ⌜ r ≡ refused number ⌝ }
-{
-    OrderAnswer {
-        number: number,
-        class: 0,
-        shape: 0,
-        pairings: 0,
-    }
-}
+ghost use Rattle.rules.specs.Numbers.{checkOrder, checkSlices};
 
 // The order check on the order record.
 pub fn check_order(o: Order, st: Settings, m: Market) -> OrderAnswer

@@ -11,7 +11,8 @@ use Rattle.rules.specs.declared.Leg.{Leg}
 use Rattle.rules.specs.Lists.{All}
 use Rattle.rules.specs.Pairing.{strikeKey}
 use Rattle.walk.specs.Tags.{seriesAt, legAt, legsFrom}
-use Rattle.tags.specs.Legs.{InRange, tagOf}
+use Rattle.rules.specs.Valid.{InRange}
+use Rattle.tags.specs.Legs.{tagOf}
 use Rattle.tags.proofs.Keys.{key-call, tag-side}
 
 -- the key says the series

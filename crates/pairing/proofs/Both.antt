@@ -16,7 +16,8 @@ use Rattle.rules.proofs.Pairings.{pairing-fewer}
 use Rattle.sorting.specs.Keys.{sortKeys, tagged, EachTwo}
 use Rattle.walk.specs.declared.PairTally.{PairTally}
 use Rattle.walk.specs.Tags.{legAt, legsFrom, Tagged, none, noted, Walks}
-use Rattle.tags.specs.Legs.{InRange, tagOf}
+use Rattle.rules.specs.Valid.{InRange}
+use Rattle.tags.specs.Legs.{tagOf}
 use Rattle.again.specs.Second.{keyAgain, secondTag, Moved}
 use Rattle.loners.specs.Tallies.{allAlone, joinedTallies, tallyClass, Loners}
 use Rattle.pairing.specs.Both.{Walkable, BothWalks}

@@ -4,7 +4,6 @@ use choice::negated;
 use rules::Market;
 use rules::Mills;
 use rules::Series;
-use rules::Settings;
 ghost use mathlib.Core.Path.{_≡_};
 ghost use Rattle.rules.specs.Checks.{putTest, callTest};
 
@@ -15,11 +14,11 @@ pub fn put_test(s: Series, paid: Mills) -> bool
     both(negated(s.call), s.strike.0 <= paid.0)
 }
 
-// Check 21: a call at the underlying's value or above.
-pub fn call_test(st: Settings, m: Market, s: Series, paid: Mills) -> bool
-    ensures { λ r. ⌜ r ≡ callTest st m s paid ⌝ }
+// Check 21: a call at the underlying's value or above. `adjusted`: the class is.
+pub fn call_test(adjusted: bool, m: Market, s: Series, paid: Mills) -> bool
+    ensures { λ r. ⌜ r ≡ callTest adjusted m s paid ⌝ }
 {
     let priced = both(0 < m.underlying.0, m.underlying.0 <= paid.0);
-    let usual = both(st.adjusted == 0, m.extended == 0);
+    let usual = both(negated(adjusted), m.extended == 0);
     both(s.call, both(priced, usual))
 }

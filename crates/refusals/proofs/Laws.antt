@@ -2,19 +2,19 @@
 use mathlib.Core.Path.{_≡_, refl, sym, ap, _∙_}
 use mathlib.Core.List.{List, [], _∷_}
 use mathlib.Core.Bool.{Bool, true, false, cond, not, _&&_, _||_}
-use Prim.Native.Nat.{ℕ, zero, suc, _≤_}
-use native.Mathlib.Nat.{not-suc-le-zero}
+use Prim.Native.Nat.{ℕ, zero, suc}
 use native.Mathlib.Omega.{arith}
 use lib.ListN.{length, take, drop, getD}
-use lib.Seq.{length-take-le}
 use lib.Dec.{eqb, ltb}
-use borrow.Author.Tests.{eqb-true, ne-eqb}
+use borrow.Author.Tests.{eqb-true}
 use Rattle.rules.specs.declared.Terms.{Terms}
 use Rattle.rules.specs.declared.Leg.{Leg}
 use Rattle.rules.specs.Lists.{all, any, somePair}
+use Rattle.rules.specs.Order.{isSimple}
 use Rattle.rules.specs.Checks.{isPositive, isNegative}
 use Rattle.rules.specs.Numbers.{isOtherRoot, isBadPrice}
 use Rattle.rules.proofs.Tests.{and-true, or-false, or-neither}
+use Rattle.rules.proofs.Simple.{simple-length}
 
 -- ---- roots: where two differ, one differs from the first
 
@@ -43,19 +43,24 @@ roots-from-first d ls zero = refl
 roots-from-first d [] (suc n) = refl
 roots-from-first d (x ∷ ls) (suc n) = first-root x (take n ls)
 
--- ---- the price: only the first place counts
+-- ---- the price: a simple order has one leg, in the first place
 
-not-asked : (p b c u v : Bool) → b ≡ false → c ≡ false → p || b && u ≡ p || c && v
-not-asked p b c u v e f = rw (e, f)
-
-pub price-of-first : (t : Terms) (d : Leg) (ls : List Leg) (n : ℕ) → n ≤ length ls
+pub price-of-first : (t : Terms) (d : Leg) (ls : List Leg) (n : ℕ)
     → isBadPrice t (take n ls)
-    ≡ ltb 1000000000000 (t .price .size .0) || eqb n 1 && not (cond (getD ls 0 d .bought) (isPositive (t .price)) (isNegative (t .price)))
+    ≡ ltb 1000000000000 (t .price .size .0) || isSimple t (take n ls) && not (cond (getD ls 0 d .bought) (isPositive (t .price)) (isNegative (t .price)))
 unfolding isBadPrice all
-price-of-first t d ls zero h = refl
-price-of-first t d [] (suc n) h = absurd (not-suc-le-zero h)
-price-of-first t d (x ∷ ls) (suc zero) h = ap (λ (b : Bool). ltb 1000000000000 (t .price .size .0) || b) (and-true _)
-price-of-first t d (x ∷ ls) (suc (suc n)) h =
-    let e = ap (λ (k : ℕ). eqb k 1) (length-take-le (suc (suc n)) (x ∷ ls) h) in
-    let f = ne-eqb (suc (suc n)) 1 (omega arith) in
-    not-asked (ltb 1000000000000 (t .price .size .0)) _ _ _ _ (e ∙ f) f
+price-of-first t d ls n = ap (λ (b : Bool). ltb 1000000000000 (t .price .size .0) || b) (go (isSimple t (take n ls)) refl)
+  where
+    sign : Leg → Bool
+    sign l = not (cond (l .bought) (isPositive (t .price)) (isNegative (t .price)))
+
+    one : (xs : List Leg) (k : ℕ) → length (take k xs) ≡ 1 → all sign (take k xs) ≡ sign (getD xs 0 d)
+    one xs zero e = absurd (omega arith)
+    one [] (suc k) e = absurd (omega arith)
+    one (x ∷ xs) (suc zero) e = and-true (sign x)
+    one (x ∷ []) (suc (suc k)) e = and-true (sign x)
+    one (x ∷ y ∷ xs) (suc (suc k)) e = absurd (omega arith)
+
+    go : (b : Bool) → isSimple t (take n ls) ≡ b → b && all sign (take n ls) ≡ b && sign (getD ls 0 d)
+    go true e = one ls n (simple-length t (take n ls) e)
+    go false e = refl

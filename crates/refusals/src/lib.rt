@@ -4,12 +4,13 @@ use choice::choose;
 use choice::either;
 use choice::negated;
 use choice::within;
-use price::is_negative;
-use price::is_positive;
 use rules::Leg;
 use rules::Legs;
 use rules::Order;
 use rules::Terms;
+use terms::is_negative;
+use terms::is_positive;
+use terms::is_simple;
 ghost use mathlib.Core.Path.{_≡_};
 ghost use mathlib.Core.Bool.{not};
 ghost use Prim.Native.Nat.{_≤_};
@@ -90,7 +91,7 @@ pub fn some_other_root(l: Legs) -> bool
     r
 }
 
-// Of one leg only the first place counts, and of more legs no sign is asked.
+// A simple order has one leg, in the first place; of a complex one no sign is asked.
 pub fn is_bad_price(t: Terms, l: Legs) -> bool
     requires { ⌜ l .len ≤ 16 ⌝ }
     ensures { λ r. ⌜ r ≡ isBadPrice t (legsIn l) ⌝ }
@@ -98,6 +99,6 @@ pub fn is_bad_price(t: Terms, l: Legs) -> bool
     let sign = choose(l.legs[0].bought, is_positive(t.price), is_negative(t.price));
     either(
         1000000000000 < t.price.size.0,
-        both(l.len == 1, negated(sign)),
+        both(is_simple(t, l.len), negated(sign)),
     )
 }

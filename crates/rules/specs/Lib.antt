@@ -12,6 +12,7 @@ pub mod Fair
 pub mod Market
 pub mod Kinds
 pub mod Numbers
+pub mod Valid
 pub mod Quote
 pub mod Tally
 pub mod Examples

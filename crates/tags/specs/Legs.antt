@@ -1,16 +1,11 @@
 -- Legs that a walk can take as tags.
 use Prim.Native.Nat.{ℕ, _+_, _*_, _≤_, _<_}
 use lib.ListN.{getD}
-use Rattle.rules.specs.declared.Series.{Series}
 use Rattle.rules.specs.declared.Leg.{Leg}
 use Rattle.rules.specs.declared.Legs.{Legs}
 use Rattle.rules.specs.Pairing.{digit, strikeKey}
 use Rattle.rules.specs.Order.{noLeg}
-
--- expiry and strike have at most eight digits
-pub record InRange (s : Series) : Type 0 where
-  pub expiry : s .expiry ≤ 99999999
-  pub strike : s .strike .0 ≤ 99999999
+use Rattle.rules.specs.Valid.{InRange}
 
 pub record AllInRange (l : Legs) : Type 0 where
   pub few : l .len ≤ 16

@@ -9,7 +9,8 @@ ghost use lib.ListN.{length, take};
 ghost use Rattle.rules.specs.Order.{legsIn};
 ghost use Rattle.rules.specs.Pairing.{strikeKey};
 ghost use Rattle.walk.specs.Tags.{Tagged};
-ghost use Rattle.tags.specs.Legs.{InRange, AllInRange, tagOf};
+ghost use Rattle.rules.specs.Valid.{InRange};
+ghost use Rattle.tags.specs.Legs.{AllInRange, tagOf};
 
 // The key of the first walk's sequence.
 pub fn strike_key(s: Series) -> u64

@@ -1,12 +1,14 @@
--- A full or broken tally, by comparisons that fit a word.
+-- A full or broken tally, by comparisons that fit a word, and the tallied answer by that test.
 use mathlib.Core.Path.{_≡_, refl, sym}
 use mathlib.Core.Bool.{Bool, true, false, not, _||_}
 use Prim.Native.Nat.{ℕ, _+_, _-_, _≤_, _<_}
 use native.Mathlib.Omega.{arith}
 use lib.Dec.{eqb, leb}
 use borrow.Author.Tests.{leb-false, eqb-true, eqb-false, eq-eqb, ne-eqb, le-leb, lt-leb, not-false}
+use Rattle.rules.specs.declared.OrderAnswer.{OrderAnswer}
 use Rattle.rules.specs.declared.Tally.{Tally}
-use Rattle.rules.specs.Tally.{isBadTally}
+use Rattle.rules.specs.Numbers.{refused}
+use Rattle.rules.specs.Tally.{isBadTally, counted, tallied}
 use Rattle.rules.proofs.Tests.{or-neither}
 
 or-true : (b : Bool) → b || true ≡ true
@@ -41,3 +43,13 @@ module _ (t : Tally) where
   bounds h =
       let k = or-neither (leb 1000000 (t .seen)) _ h in
       (leb-false 1000000 (t .seen) (k .0), eqb-true (t .seen) sum (not-false _ (k .1)))
+
+-- ---- the tallied answer
+
+pub bad-tally : (t : Tally) (a : OrderAnswer) {r : OrderAnswer} → isBadTally t ≡ true → r ≡ refused 12 → record { answer = r; tally = t } ≡ tallied t a
+unfolding tallied
+bad-tally t a h e = rw (h, e)
+
+pub good-tally : (t : Tally) (a : OrderAnswer) {u : Tally} → isBadTally t ≡ false → u ≡ counted t (a .number) → record { answer = a; tally = u } ≡ tallied t a
+unfolding tallied
+good-tally t a h e = rw (h, e)

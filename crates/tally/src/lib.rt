@@ -1,16 +1,19 @@
-// A session's tally: its own test, and its step by the number that a check gave.
+// A session's tally: its own test, and what it makes of the answer to an order.
+use answers::refused;
 use choice::either;
 use choice::negated;
 use choice::pick;
 use choice::within;
+use rules::OrderAnswer;
+use rules::TalliedAnswer;
 use rules::Tally;
 ghost use mathlib.Core.Path.{_≡_};
 ghost use mathlib.Core.Bool.{false};
 ghost use Prim.Native.Nat.{_≤_};
-ghost use Rattle.rules.specs.Tally.{isBadTally, oneMore, counted};
+ghost use Rattle.rules.specs.Tally.{isBadTally, oneMore, counted, tallied};
 
 // Full, or broken. The three parts together might not fit a word, so they are taken from what was seen.
-pub fn is_bad_tally(t: Tally) -> bool
+fn is_bad_tally(t: Tally) -> bool
     ensures { λ r. ⌜ r ≡ isBadTally t ⌝ }
 {
     if 1000000 <= t.seen {
@@ -34,7 +37,7 @@ fn one_more(b: bool, n: u64) -> u64
 }
 
 // One more seen, and one more of the number's kind.
-pub fn counted(t: Tally, number: u64) -> Tally
+fn counted(t: Tally, number: u64) -> Tally
     requires { ⌜ isBadTally t ≡ false ⌝ }
     ensures { λ r. ⌜ r ≡ counted t number ⌝ }
 {
@@ -45,5 +48,21 @@ pub fn counted(t: Tally, number: u64) -> Tally
         refused: one_more(negated(either(accepted, rejected)), t.refused),
         accepted: one_more(accepted, t.accepted),
         rejected: one_more(rejected, t.rejected),
+    }
+}
+
+// The answer, counted. A tally that is full, or not the sum of its parts, stays as it came.
+pub fn tallied(tally: Tally, answer: OrderAnswer) -> TalliedAnswer
+    ensures { λ r. ⌜ r ≡ tallied tally answer ⌝ }
+{
+    if is_bad_tally(tally) {
+        return TalliedAnswer {
+            answer: refused(12),
+            tally: tally,
+        };
+    }
+    TalliedAnswer {
+        answer: answer,
+        tally: counted(tally, answer.number),
     }
 }

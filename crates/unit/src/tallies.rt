@@ -2,8 +2,9 @@
 use inputs::market_of;
 use inputs::settings_of;
 use inputs::terms_of;
+use order_check::check_slices;
 use rules::Tally;
-use tallied::check_tallied;
+use tally::tallied;
 ghost use mathlib.Core.Path.{_≡_};
 ghost use Rattle.rules.specs.Market.{settingsOf, marketOf};
 ghost use Rattle.rules.specs.Tally.{checkTallied};
@@ -39,7 +40,8 @@ pub extern "C" fn opc_check_order_tallied(
         accepted: *accepted,
         rejected: *rejected,
     };
-    let after = check_tallied(symbols, counts, terms, set, values, before);
+    let answer = check_slices(symbols, counts, terms, set, values);
+    let after = tallied(before, answer);
     *class = after.answer.class;
     *shape = after.answer.shape;
     *pairings = after.answer.pairings;

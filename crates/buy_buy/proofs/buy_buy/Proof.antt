@@ -24,13 +24,13 @@ returns c =
     let s = c .before .before .before .before .before .before .before in
     let a = s .args in
     let below = ap (λ (n : ℕ). isBelow (getD (a .t3 .legs) 0 noLeg .bought) (a .t .price) (n * a .st .increment .0)) (c .before .before .sizes .ensures .0) in
-    buy-buy-tested (a .st) (a .t) noLeg (a .t3 .legs) (a .t3 .len) (s .pre .two) (fits s) (c .before .before .before .before .before .all-on .ensures) (c .before .before .before .before .both .ensures) (c .before .before .before .if1 .taken) (c .is-below .ensures ∙ below)
+    buy-buy-tested (a .st) (a .t) noLeg (a .t3 .legs) (a .t3 .len) (s .pre .complex) (s .pre .some) (fits s) (c .before .before .before .before .before .all-on .ensures) (c .before .before .before .before .both .ensures) (c .before .before .before .if1 .taken) (c .is-below .ensures ∙ below)
 
 returns-2 : tie.Need-returns-2
 returns-2 c =
     let s = c .before .before .before .before in
     let a = s .args in
-    buy-buy-untested (a .st) (a .t) noLeg (a .t3 .legs) (a .t3 .len) (s .pre .two) (fits s) (c .before .before .all-on .ensures) (c .before .both .ensures) (c .if1 .left)
+    buy-buy-untested (a .st) (a .t) noLeg (a .t3 .legs) (a .t3 .len) (s .pre .complex) (s .pre .some) (fits s) (c .before .before .all-on .ensures) (c .before .both .ensures) (c .if1 .left)
 
 pub buy-buy-spec : {M : Type 1} → statement M
 buy-buy-spec =

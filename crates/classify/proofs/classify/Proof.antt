@@ -4,7 +4,7 @@ use lib.ListN.{length}
 use Rattle.rules.specs.Order.{legsIn, units}
 use Rattle.rules.specs.Pairing.{Walked, bothWalks}
 use Rattle.rules.specs.Class.{shapeOf, pairClass, classWith}
-use Rattle.classify.specs.Legs.{Valid}
+use Rattle.rules.specs.Valid.{Valid}
 use Rattle.classify.proofs.Valid.{sortable, walkable, all-positive, sorted-valid}
 use Rattle.classify.proofs.classify.Statement.{statement}
 use Rattle.classify.proofs.classify.Tie as tie

@@ -1,0 +1,13 @@
+use mathlib.Core.Path.{sym, ap}
+use Prim.Native.Nat.{ℕ}
+use lib.Dec.{eqb}
+use Rattle.rules.specs.Order.{isSimple}
+use Rattle.terms.proofs.is_simple.Statement.{statement}
+use Rattle.terms.proofs.is_simple.Tie as tie
+
+returns : tie.Need-returns
+unfolding isSimple
+returns c = λ ls e. sym (ap (λ (n : ℕ). eqb n 1) e)
+
+pub is-simple-spec : {M : Type 1} → statement M
+is-simple-spec = tie.close (tie.spec returns)
