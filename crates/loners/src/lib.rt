@@ -1,4 +1,4 @@
-// The class that pairs and loners give.
+// Loners beside pairs, and the class that both give.
 use choice::both;
 use choice::either;
 use choice::negated;
@@ -48,7 +48,8 @@ pub fn joined(a: PairTally, b: PairTally) -> PairTally
     }
 }
 
-pub fn class_of(t: PairTally) -> u64
+// The class that pairs and loners give.
+pub fn pair_class(t: PairTally) -> u64
     ensures { λ r. ⌜ r ≡ tallyClass t ⌝ }
 {
     pick(t.credit, pick(t.debit, 0, 2), 1)

@@ -2,9 +2,9 @@
 use again::places;
 use again::second_left;
 use again::second_tags;
-use loners::class_of;
 use loners::joined;
 use loners::loners;
+use loners::pair_class;
 use rules::Legs;
 use tags::sizes;
 use tags::tags;
@@ -30,7 +30,7 @@ pub fn both_walks(l: Legs, european: bool) -> Paired
         let t = loners(a, &first, &left, n);
         return Paired {
             pairings: t.pairs,
-            class: class_of(t),
+            class: pair_class(t),
         };
     }
     let again = places(&first, n);
@@ -40,6 +40,6 @@ pub fn both_walks(l: Legs, european: bool) -> Paired
     let t = loners(joined(a, b), &second, &rest, n);
     Paired {
         pairings: t.pairs,
-        class: class_of(t),
+        class: pair_class(t),
     }
 }

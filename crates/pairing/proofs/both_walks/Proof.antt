@@ -10,7 +10,7 @@ returns c =
     let z = w .before .before .before in
     let t = z .before in
     let s = t .before in
-    rw (c .before .before .before .before .if1 .taken) (one-walk (s .args .l) (s .pre) (t .tags .result) (z .sizes .result) (w .walk .last .1 .0) (w .walk .result) (t .tags .ensures) (z .sizes .ensures) (w .walk .ensures) (c .before .loners .result) (c .class-of .result) (c .before .loners .ensures) (c .class-of .ensures))
+    rw (c .before .before .before .before .if1 .taken) (one-walk (s .args .l) (s .pre) (t .tags .result) (z .sizes .result) (w .walk .last .1 .0) (w .walk .result) (t .tags .ensures) (z .sizes .ensures) (w .walk .ensures) (c .before .loners .result) (c .pair-class .result) (c .before .loners .ensures) (c .pair-class .ensures))
 
 joined-requires : tie.Need-joined-requires
 joined-requires c κs =
@@ -39,7 +39,7 @@ returns-2 c =
     let p = x .before .before .before in
     let j = c .before .before .before .before .joined .ensures in
     let o = rw j at (c .before .loners2 .ensures) in
-    rw (c .before .before .before .before .before .before .before .before .before .before .before .before .before .before .before .before .if1 .left) (two-walks (s .args .l) (s .pre) (t .tags .result) (z .sizes .result) (w .walk .last .1 .0) (w .walk .result) (t .tags .ensures) (z .sizes .ensures) (w .walk .ensures) (p .places .result) (x .second-tags .result) (y .second-left .result) (v .walk2 .last .1 .0) (v .walk2 .result) (p .places .ensures .0) (x .second-tags .ensures .0) (y .second-left .ensures) (v .walk2 .ensures) (c .before .loners2 .result) (c .class-of2 .result) o (c .class-of2 .ensures))
+    rw (c .before .before .before .before .before .before .before .before .before .before .before .before .before .before .before .before .if1 .left) (two-walks (s .args .l) (s .pre) (t .tags .result) (z .sizes .result) (w .walk .last .1 .0) (w .walk .result) (t .tags .ensures) (z .sizes .ensures) (w .walk .ensures) (p .places .result) (x .second-tags .result) (y .second-left .result) (v .walk2 .last .1 .0) (v .walk2 .result) (p .places .ensures .0) (x .second-tags .ensures .0) (y .second-left .ensures) (v .walk2 .ensures) (c .before .loners2 .result) (c .pair-class2 .result) o (c .pair-class2 .ensures))
 
 pub both-walks-spec : {M : Type 1} → statement M
 both-walks-spec =
