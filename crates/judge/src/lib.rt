@@ -7,19 +7,20 @@ use rules::Market;
 use rules::OrderAnswer;
 use rules::Settings;
 use rules::Terms;
+use terms::is_simple;
 ghost use mathlib.Core.Path.{_≡_};
 ghost use mathlib.Core.List.{[], _∷_};
 ghost use mathlib.Core.Bool.{true};
 ghost use Prim.Native.Nat.{_≤_, _<_};
-ghost use Rattle.rules.specs.Order.{legsIn};
+ghost use Rattle.rules.specs.Order.{legsIn, isSimple, isComplex};
 ghost use Rattle.rules.specs.Pairing.{byStrike};
 ghost use Rattle.rules.specs.Market.{settingsHold, marketHolds};
 ghost use Rattle.rules.specs.Numbers.{judged};
-ghost use Rattle.classify.specs.Legs.{Valid};
+ghost use Rattle.rules.specs.Valid.{Valid};
 
 // An order of one leg has nothing to sort, to divide or to pair.
 fn judge_simple(st: Settings, m: Market, t: Terms, x: Leg) -> OrderAnswer
-    requires { ⌜ (settingsHold st ≡ true) × (marketHolds m ≡ true) × (0 < x .size) ⌝ }
+    requires { ⌜ (settingsHold st ≡ true) × (marketHolds m ≡ true) × (0 < x .size) × (isSimple t (x ∷ []) ≡ true) ⌝ }
     ensures { λ r. ⌜ r ≡ judged st m t (byStrike (x ∷ [])) ⌝ }
 {
     let series = x.series;
@@ -37,9 +38,9 @@ fn judge_simple(st: Settings, m: Market, t: Terms, x: Leg) -> OrderAnswer
     }
 }
 
-// No check of an order of more legs asks for the market.
+// No check of a complex order asks for the market.
 fn judge_complex(st: Settings, t: Terms, l: Legs) -> OrderAnswer
-    requires { ⌜ (settingsHold st ≡ true) × Valid l × (2 ≤ l .len) ⌝ }
+    requires { ⌜ (settingsHold st ≡ true) × Valid l × (1 ≤ l .len) × (isComplex t (legsIn l) ≡ true) ⌝ }
     ensures { λ r. ⌜ ((m : Market) → r ≡ judged st m t (byStrike (legsIn l))) ⌝ }
 {
     let c = classify(l, st.european != 0);
@@ -57,7 +58,7 @@ pub fn judge(st: Settings, m: Market, t: Terms, l: Legs) -> OrderAnswer
     requires { ⌜ (settingsHold st ≡ true) × (marketHolds m ≡ true) × Valid l × (1 ≤ l .len) ⌝ }
     ensures { λ r. ⌜ r ≡ judged st m t (byStrike (legsIn l)) ⌝ }
 {
-    if l.len == 1 {
+    if is_simple(t, l.len) {
         let x = l.legs[0];
         return judge_simple(st, m, t, x);
     }

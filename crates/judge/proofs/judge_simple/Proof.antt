@@ -1,8 +1,8 @@
 use mathlib.Core.Path.{refl, sym, _∙_}
 use mathlib.Core.Bool.{cond}
+use Rattle.rules.proofs.Simple.{simple-same}
 use Rattle.judge.proofs.Simple.{judged-one}
 use Rattle.judge.proofs.Laws.{answer}
-use borrow.Author.Needs.{needs}
 use Rattle.judge.proofs.judge_simple.Statement.{statement}
 use Rattle.judge.proofs.judge_simple.Tie as tie
 
@@ -14,5 +14,8 @@ returns c =
     let class = c .pick .ensures in
     answer number class refl refl ∙ sym (judged-one (a .st) (a .m) (a .t) (a .x) (s .pre .2))
 
+rejection-requires : tie.Need-rejection-requires
+rejection-requires c κs = let s = c .before .before in (s .pre .0, s .pre .1, simple-same _ _ _ refl ∙ s .pre .3)
+
 pub judge-simple-spec : {M : Type 1} → statement M
-judge-simple-spec = tie.close (tie.spec (λ c κs. search needs) (λ c κs. tt) returns)
+judge-simple-spec = tie.close (tie.spec rejection-requires (λ c κs. tt) returns)
