@@ -3,12 +3,13 @@
 
 use crate::{
     arrival::{Answer, Arrival},
+    numbers::{kind, Kind},
     order,
     quote::{Quote, QuoteAnswer},
     quote_check,
     run::Seen,
     tally::{self, Tallied, TalliedAnswer},
-    unit, ACCEPTED,
+    unit,
 };
 use std::fmt::{Debug, Display};
 
@@ -55,7 +56,7 @@ impl Case for Arrival {
     /// Classes, shapes and pairings are those of valid orders.
     fn count(answer: &Answer, seen: &mut Seen) {
         *seen.numbers.entry(answer.number).or_default() += 1;
-        if answer.number == ACCEPTED || answer.number >= 20 {
+        if kind(answer.number) != Kind::Refused {
             *seen.classes.entry(answer.class).or_default() += 1;
             *seen.shapes.entry(answer.shape).or_default() += 1;
             *seen.pairings.entry(answer.pairings).or_default() += 1;

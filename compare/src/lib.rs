@@ -15,6 +15,7 @@ pub mod examples;
 pub mod generate;
 pub mod legs;
 pub mod limits;
+pub mod numbers;
 pub mod order;
 pub mod osi;
 pub mod pairing;
@@ -31,11 +32,6 @@ pub mod unit;
 
 /// The bytes of a symbol.
 pub const SYMBOL_LENGTH: usize = 21;
-
-pub const ACCEPTED: u64 = 0;
-pub const NOT_21_BYTES: u64 = 1;
-pub const SHORT_BUFFER: u64 = 2;
-pub const BAD_SYMBOL: u64 = 4;
 
 /// The parts of a symbol as the C face carries them: `root` is its six bytes as one number, the
 /// first byte highest; `option_type` is the byte `C` or `P`; `strike` is in mills.

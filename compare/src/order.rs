@@ -6,10 +6,11 @@ use crate::{
     checks::{self, Order},
     class,
     legs::{units, Leg},
+    numbers::{ACCEPTED, BAD_MARKET, BAD_SETTING, BAD_SYMBOL, NOT_21_BYTES},
     osi,
     pairing::{self, Paired},
     shape::Shape,
-    Parts, ACCEPTED, SYMBOL_LENGTH,
+    Parts, SYMBOL_LENGTH,
 };
 
 const COUNT_LENGTH: usize = 8;
@@ -119,15 +120,15 @@ fn signed(bytes: &[u8]) -> i128 {
 /// Every refusal with whether it applies.
 fn refusals(arrival: &Arrival, legs: &RawLegs) -> [(u64, bool); 9] {
     [
-        (10, !market_is_within_limits(&arrival.market)),
-        (9, !settings_are_within_limits(&arrival.settings)),
+        (BAD_MARKET, !market_is_within_limits(&arrival.market)),
+        (BAD_SETTING, !settings_are_within_limits(&arrival.settings)),
         (8, price_is_wrong(arrival.price.into(), &legs.counts)),
         (7, some_two(&legs.parts, roots_differ)),
         (6, some_two(&legs.symbols, |one, other| one == other)),
         (5, legs.counts.iter().any(|&count| count_is_wrong(count))),
-        (4, legs.parts.contains(&None)),
+        (BAD_SYMBOL, legs.parts.contains(&None)),
         (3, !(1..=MOST_LEGS).contains(&legs.symbols.len())),
-        (1, legs.broken),
+        (NOT_21_BYTES, legs.broken),
     ]
 }
 

@@ -6,7 +6,8 @@
 //! parts are inside the layout if the text made of them reads back as the same parts.
 
 use crate::{
-    Parts, Read, Written, ACCEPTED, BAD_SYMBOL, NOT_21_BYTES, SHORT_BUFFER, SYMBOL_LENGTH,
+    numbers::{ACCEPTED, BAD_SYMBOL, NOT_21_BYTES, SHORT_BUFFER},
+    Parts, Read, Written, SYMBOL_LENGTH,
 };
 
 const LETTERS: &str = "ABCDEFGHIJKLMNOPQRSTUVWXYZ";

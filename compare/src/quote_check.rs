@@ -11,11 +11,12 @@ use crate::{
     checks::{self, Order, Seen},
     class::DEBIT,
     legs::Leg,
+    numbers::{ACCEPTED, BAD_MARKET, BAD_SETTING, BAD_SYMBOL, NOT_21_BYTES},
     order::{lowest, market_is_within_limits, settings_are_within_limits},
     osi,
     quote::{Quote, QuoteAnswer},
     shape::Shape,
-    Parts, ACCEPTED, BAD_SYMBOL, NOT_21_BYTES,
+    Parts,
 };
 
 const LARGEST_QUOTE: u64 = 1_000_000_000;
@@ -47,8 +48,8 @@ fn refusals(quote: &Quote, read: u64) -> [(u64, bool); 5] {
     let inside = limits.contains(&quote.bid) && limits.contains(&quote.offer);
     [
         (11, !inside || quote.bid >= quote.offer),
-        (10, !market_is_within_limits(&quote.market)),
-        (9, !settings_are_within_limits(&quote.settings)),
+        (BAD_MARKET, !market_is_within_limits(&quote.market)),
+        (BAD_SETTING, !settings_are_within_limits(&quote.settings)),
         (BAD_SYMBOL, read == BAD_SYMBOL),
         (NOT_21_BYTES, read == NOT_21_BYTES),
     ]

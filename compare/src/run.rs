@@ -3,18 +3,13 @@
 
 use crate::{
     case::Case,
+    numbers::{self, Of},
     random::{self, Random, SEED_VARIABLE},
 };
 use std::collections::BTreeMap;
 
 /// The environment variable that holds one case as a line of text, for the test `replay`.
 pub const CASE_VARIABLE: &str = "COMPARE_CASE";
-
-/// The numbers that the order check can give.
-pub const NUMBERS: [u64; 16] = [0, 1, 3, 4, 5, 6, 7, 8, 9, 10, 20, 21, 22, 23, 24, 25];
-
-/// The numbers that the quote check can give.
-const QUOTE_NUMBERS: [u64; 9] = [0, 1, 4, 9, 10, 11, 20, 21, 26];
 
 pub type Counts = BTreeMap<u64, u64>;
 
@@ -132,7 +127,7 @@ to run it again, in compare/:
     /// The same for quotes: each number that they can get, and both values of the cancel flag.
     pub fn require_of_quotes(&self, least: u64) {
         let seen = &self.seen;
-        self.given_each("number", &seen.numbers, QUOTE_NUMBERS, least);
+        self.given_each("number", &seen.numbers, numbers::of(Of::Quote), least);
         self.given_each("cancel", &seen.cancels, 0..=1, least);
     }
 

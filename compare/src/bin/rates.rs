@@ -7,9 +7,10 @@
 use compare::{
     arrival::{Answer, Arrival, EXAMPLE_SETTINGS},
     generate::{legs_of, list_of},
+    numbers::{kind, Kind},
     order,
     random::Random,
-    unit, ACCEPTED,
+    unit,
 };
 use std::{hint::black_box, time::Instant};
 
@@ -36,7 +37,7 @@ fn valid_order(random: &mut Random, legs: usize) -> Arrival {
         let arrival = Arrival::limit(&legs_of(&draft), price);
         assert_eq!(arrival.settings, EXAMPLE_SETTINGS);
         let number = order::check(&arrival).number;
-        if draft.len() == legs && (number == ACCEPTED || number >= 20) {
+        if draft.len() == legs && kind(number) != Kind::Refused {
             return arrival;
         }
     }
