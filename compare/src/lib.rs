@@ -25,6 +25,7 @@ pub mod random;
 pub mod run;
 pub mod series;
 pub mod shape;
+pub mod slices;
 pub mod tally;
 pub mod text;
 #[allow(unsafe_code)] // calls through C

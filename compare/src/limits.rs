@@ -1,7 +1,13 @@
 //! What the tests of orders and of quotes share: values around every limit of settings and market,
 //! and every choice of faults, of switches and of values.
 
-use crate::{case::Case, run::Run};
+use crate::{
+    case::Case,
+    numbers::{ACCEPTED, BAD_MARKET, BAD_SETTING},
+    order::lowest,
+    run::Run,
+    slices::{market, setting, with, EXAMPLE_SETTINGS},
+};
 
 /// Values that a number cut short would take for others, and the largest.
 pub const EXTREMES: [u64; 4] = [1 << 32, 1 << 63, u64::MAX - 1, u64::MAX];
@@ -25,14 +31,14 @@ pub fn of_settings() -> Vec<Limit> {
     let around = [0, 1, 2, 3, 599, 600, 601, 999, 1_000, 1_001, 9_999, 10_000];
     let far = [10_001, 999_999, 1_000_000, 1_000_001, (1 << 32) + 5];
     let values = [&around[..], &far, &EXTREMES].concat();
-    at_each_place(7, &limits, &values)
+    at_each_place(setting::TICK_BELOW_3000, &limits, &values)
 }
 
 /// The same for the market.
 pub fn of_market() -> Vec<Limit> {
     let phase_and_flags = [(0, 2), (0, u64::MAX), (0, u64::MAX)];
     let limits = [&phase_and_flags[..], &[(0, LARGEST_MARKET_VALUE); 6]].concat();
-    at_each_place(0, &limits, &around_market_values())
+    at_each_place(market::PHASE, &limits, &around_market_values())
 }
 
 /// Values around the limits of a phase and of a price in the market or in a quote.
@@ -70,14 +76,48 @@ pub fn faults_together<C: Clone>(case: &C, faults: &[Fault<C>]) -> Vec<(C, u64)>
     (0..1 << faults.len()).map(with_faults).collect()
 }
 
-/// All settings of the switches, each with the first of some checks that is on, 0 if none is.
-pub fn every_switching(rejecting: &[u64]) -> Vec<([u64; 7], u64)> {
-    let with_first = |switches: u64| {
-        let on = |number: u64| switches >> (number - 20) & 1;
-        let first = rejecting.iter().copied().find(|&number| on(number) == 1);
-        ([20, 21, 22, 23, 24, 25, 26].map(on), first.unwrap_or(0))
+/// The examples' settings with every choice of switches, each with the first of some checks that is
+/// on, 0 if none is. A check is a number and the place of its switch.
+pub fn every_switching(checks: &[(u64, usize)]) -> Vec<(Vec<u64>, u64)> {
+    let with_first = |switches: [u64; 7]| {
+        let changes: Vec<(usize, u64)> = (setting::CHECK_20..).zip(switches).collect();
+        let settings = with(&EXAMPLE_SETTINGS, &changes);
+        let first = checks.iter().find(|(_, switch)| settings[*switch] == 1);
+        let number = first.map_or(0, |(number, _)| *number);
+        (settings, number)
     };
-    (0..1 << 7).map(with_first).collect()
+    every(&[0, 1]).map(with_first).collect()
+}
+
+/// Lengths of a slice that should have another: none, one too few, one too many, twice.
+pub fn wrong_lengths(right: usize) -> [usize; 4] {
+    [0, right - 1, right + 1, 2 * right]
+}
+
+/// Settings and market of right and wrong lengths, each with the number of a case that gets some
+/// number with right ones.
+pub fn every_length(number: u64) -> Vec<(usize, usize, u64)> {
+    let lengths = |right| [&[right][..], &wrong_lengths(right)].concat();
+    let mut all = Vec::new();
+    for settings in lengths(setting::LENGTH) {
+        for market in lengths(market::LENGTH) {
+            let numbers = [
+                (number, number != ACCEPTED),
+                (BAD_SETTING, settings != setting::LENGTH),
+                (BAD_MARKET, market != market::LENGTH),
+            ];
+            all.push((settings, market, lowest(&numbers).unwrap_or(ACCEPTED)));
+        }
+    }
+    all
+}
+
+/// The numbers over and over, to so many: to all lengths around the right ones, and to some of which a
+/// length cut short would make these.
+pub fn to_every_length(numbers: &[u64]) -> impl Iterator<Item = Vec<u64>> + '_ {
+    let cut_short = [1 << 8, 1 << 16].map(|more| numbers.len() + more);
+    let lengths = (0..=2 * numbers.len() + 1).chain(cut_short);
+    lengths.map(|length| numbers.iter().copied().cycle().take(length).collect())
 }
 
 /// Where a number stands that is 0 for no, and anything else for yes.

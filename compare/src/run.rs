@@ -3,8 +3,10 @@
 
 use crate::{
     case::Case,
+    limits::wrong_lengths,
     numbers::{self, Of},
     random::{self, Random, SEED_VARIABLE},
+    slices::{market, setting},
 };
 use std::collections::BTreeMap;
 
@@ -21,6 +23,18 @@ pub struct Seen {
     pub shapes: Counts,
     pub pairings: Counts,
     pub cancels: Counts,
+    pub settings_lengths: Counts,
+    pub market_lengths: Counts,
+}
+
+impl Seen {
+    pub fn lengths(&mut self, settings: &[u64], market: &[u64]) {
+        *self
+            .settings_lengths
+            .entry(settings.len() as u64)
+            .or_default() += 1;
+        *self.market_lengths.entry(market.len() as u64).or_default() += 1;
+    }
 }
 
 pub struct Run {
@@ -55,7 +69,7 @@ impl Run {
             self.difference(case, answer, expected, found_by);
         }
         self.comparisons += 1;
-        C::count(&answer, &mut self.seen);
+        case.count(&answer, &mut self.seen);
         answer
     }
 
@@ -98,6 +112,8 @@ to run it again, in compare/:
             ("shape", &self.seen.shapes),
             ("pairings", &self.seen.pairings),
             ("cancel", &self.seen.cancels),
+            ("settings", &self.seen.settings_lengths),
+            ("market", &self.seen.market_lengths),
         ] {
             for (value, times) in counts {
                 println!("{name}: {what:>8} {value:>2} {times:>9} times");
@@ -114,14 +130,15 @@ to run it again, in compare/:
     }
 
     /// Fails unless each of some numbers, every class and every shape were given at least so often,
-    /// and every number of pairings that 16 legs can make a tenth of that: a run that tries nothing
-    /// must not pass.
+    /// and every number of pairings that 16 legs can make a tenth of that, as often as settings and
+    /// market of each wrong length were lent: a run that tries nothing must not pass.
     pub fn require(&self, numbers: &[u64], least: u64) {
         let seen = &self.seen;
         self.given_each("number", &seen.numbers, numbers.iter().copied(), least);
         self.given_each("class", &seen.classes, 0..=2, least);
         self.given_each("shape", &seen.shapes, 0..=4, least);
         self.given_each("pairings", &seen.pairings, 0..=15, least / 10);
+        self.lent_each(least / 10);
     }
 
     /// The same for quotes: each number that they can get, and both values of the cancel flag.
@@ -129,6 +146,15 @@ to run it again, in compare/:
         let seen = &self.seen;
         self.given_each("number", &seen.numbers, numbers::of(Of::Quote), least);
         self.given_each("cancel", &seen.cancels, 0..=1, least);
+        self.lent_each(least / 10);
+    }
+
+    fn lent_each(&self, least: u64) {
+        let [settings, market] = [setting::LENGTH, market::LENGTH]
+            .map(|right| wrong_lengths(right).map(|length| length as u64));
+        let seen = &self.seen;
+        self.given_each("settings", &seen.settings_lengths, settings, least);
+        self.given_each("market", &seen.market_lengths, market, least);
     }
 
     fn given_each(

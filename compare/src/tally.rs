@@ -6,7 +6,7 @@ use crate::{
     arrival::{Answer, Arrival},
     numbers::{kind, Kind, BAD_TALLY},
     order,
-    text::{list, numbers},
+    text::{just, list},
 };
 use std::{fmt, str::FromStr};
 
@@ -101,7 +101,7 @@ impl FromStr for Tallied {
         };
         Ok(Tallied {
             arrival: arrival.parse()?,
-            tally: Tally::of_numbers(numbers(tally)?),
+            tally: Tally::of_numbers(just(tally)?),
         })
     }
 }

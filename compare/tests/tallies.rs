@@ -5,10 +5,12 @@
 use compare::{
     arrival::{Answer, Arrival},
     generate::arrival,
+    limits::every_length,
     numbers::{self, kind, Kind, Of, BAD_TALLY},
     order,
     random::Random,
     run::Run,
+    slices::{market, setting},
     tally::{self, Tallied, TalliedAnswer, Tally},
     unit,
 };
@@ -36,12 +38,14 @@ impl List {
         }
     }
 
-    /// One more check, held to the second implementation and to the check without a tally.
-    fn put(&mut self, run: &mut Run, arrival: Arrival) {
+    /// One more check, held to the second implementation and to the check without a tally, whose
+    /// answer is given.
+    fn put(&mut self, run: &mut Run, arrival: Arrival) -> Answer {
         let plain = unit::check_order(&arrival);
         let tally = self.tally;
         let answer = run.compare(&Tallied { arrival, tally });
         self.count(plain, answer);
+        plain
     }
 
     fn count(&mut self, plain: Answer, answer: TalliedAnswer) {
@@ -286,6 +290,28 @@ fn tallies_of_every_sort() {
     let wrong = SORTS.iter().filter(|(_, wrong, _)| *wrong).count() as u64;
     assert_eq!(run.comparisons, 5_000 * SORTS.len() as u64);
     assert_eq!(run.given(BAD_TALLY), 5_000 * wrong);
+}
+
+/// Settings and market of any length, among refusals of every other sort.
+#[test]
+fn lengths_of_settings_and_market() {
+    let mut run = Run::new("tallied lengths");
+    for _ in 0..400 {
+        let mut list = List::from(Tally::default());
+        let mut arrival = arrival(&mut run.random);
+        arrival.settings.resize(setting::LENGTH, 1);
+        arrival.market.resize(market::LENGTH, 1);
+        let number = order::check(&arrival).number;
+        for (settings, market, number) in every_length(number) {
+            let mut other = arrival.clone();
+            other.settings.resize(settings, 1);
+            other.market.resize(market, 1);
+            put_broken(&mut run, &other, list.tally);
+            assert_eq!(list.put(&mut run, other).number, number);
+        }
+        list.finish();
+    }
+    run.finish(&[9, 10, 12], 400 * 25 * 2);
 }
 
 /// One list of a million checks from a fresh tally, and beyond. The arrivals are few, so the second
