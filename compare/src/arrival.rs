@@ -25,6 +25,7 @@ pub struct Arrival {
 }
 
 /// The whole answer of the order check.
+#[repr(C)]
 #[derive(Clone, Copy, Debug, PartialEq, Eq)]
 pub struct Answer {
     pub number: u64,

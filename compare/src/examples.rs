@@ -14,7 +14,7 @@ use crate::{
     arrival::{Answer, Arrival, RawLeg},
     quote::{Quote, QuoteAnswer},
     series::{call, put, Series},
-    slices::{market::*, setting::*, with},
+    slices::{market::*, setting::*},
 };
 
 pub struct Example {
@@ -51,18 +51,9 @@ fn market_order(legs: &[RawLeg], price: i64) -> Arrival {
     }
 }
 
-/// The same under the examples' settings but for those at some places.
-fn with_settings(arrival: Arrival, changes: &[(usize, u64)]) -> Arrival {
-    let settings = with(&arrival.settings, changes);
-    Arrival {
-        settings,
-        ..arrival
-    }
-}
-
-fn with_market(arrival: Arrival, place: usize, value: u64) -> Arrival {
-    let market = with(&arrival.market, &[(place, value)]);
-    Arrival { market, ..arrival }
+fn with_market(mut arrival: Arrival, place: usize, value: u64) -> Arrival {
+    arrival.market[place] = value;
+    arrival
 }
 
 /// A place, what arrives, and its number, class, shape and pairings.
@@ -141,7 +132,10 @@ fn complex_of_document_01() -> Vec<Example> {
 fn calendars_of_document_01() -> Vec<Example> {
     let t8 = [call(MAR, 20_000).leg(1), call(JUN, 20_000).leg(-1)];
     let t10 = [&t8[..], &[call(SEP, 20_000).leg(1)]].concat();
-    let european = |arrival| with_settings(arrival, &[(EUROPEAN, 1)]);
+    let european = |mut arrival: Arrival| {
+        arrival.settings[EUROPEAN] = 1;
+        arrival
+    };
     collect(vec![
         ("T8", limit(&t8, -1_000), [0, 2, 0, 1]),
         ("T8", limit(&t8, 1_000), [23, 2, 0, 1]),
@@ -251,18 +245,16 @@ fn pairs_of_000() -> Vec<Example> {
 
 /// 000, Maximum Value Acceptable Price Range, examples 1 to 3.
 fn maximum_value_of_000() -> Vec<Example> {
-    let set = |arrival, percentage, minimum, maximum| {
-        let presets = [(PRESET_MINIMUM, minimum), (PRESET_MAXIMUM, maximum)];
-        with_settings(
-            arrival,
-            &[&[(PERCENTAGE, percentage)], &presets[..]].concat(),
-        )
+    let set = |mut arrival: Arrival, percentage_and_presets: [u64; 3]| {
+        let settings = &mut arrival.settings[PERCENTAGE..=PRESET_MAXIMUM];
+        settings.copy_from_slice(&percentage_and_presets);
+        arrival
     };
     let e1 = legs(call, AUG, &[(1, 25), (-1, 30)]);
-    let e1 = |price| set(market_order(&e1, price), 500, 50, 500);
+    let e1 = |price| set(market_order(&e1, price), [500, 50, 500]);
     let e2 = legs(put, NOV, &[(1, 10), (-2, 20), (1, 30)]);
-    let e2 = |price| set(limit(&e2, price), 200, 300, 900);
-    let e3 = |price| set(limit(&box_spread(), price), 300, 200, 600);
+    let e2 = |price| set(limit(&e2, price), [200, 300, 900]);
+    let e3 = |price| set(limit(&box_spread(), price), [300, 200, 600]);
     collect(vec![
         ("000, maximum #1", e1(6_600), [24, 1, 1, 1]),
         ("000, maximum #1", e1(5_200), [0, 1, 1, 1]),
@@ -333,11 +325,11 @@ fn quotes_of_put() -> Vec<QuoteRow> {
 fn quotes_at_three_dollars() -> Vec<QuoteRow> {
     let quote = |bid, offer, at_best: bool| {
         let mut quote = Quote::new(&call(MAR, 20_000).symbol(), bid, offer);
-        let settings = [(SET_TICKS, 3), (TICK_BELOW_3000, 50), (TICK_FROM_3000, 100)];
-        quote.settings = with(&quote.settings, &settings);
-        quote.market = with(&quote.market, &[(NBB, 3_100), (NBO, 3_400)]);
+        quote.settings[SET_TICKS] = 3;
+        quote.settings[TICK_BELOW_3000..=TICK_FROM_3000].copy_from_slice(&[50, 100]);
+        quote.market[NBB..=NBO].copy_from_slice(&[3_100, 3_400]);
         if at_best {
-            quote.market = with(&quote.market, &[(OWN_BID, 3_100), (OWN_OFFER, 3_400)]);
+            quote.market[OWN_BID..=OWN_OFFER].copy_from_slice(&[3_100, 3_400]);
         }
         quote
     };

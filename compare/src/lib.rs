@@ -36,6 +36,7 @@ pub const SYMBOL_LENGTH: usize = 21;
 
 /// The parts of a symbol as the C face carries them: `root` is its six bytes as one number, the
 /// first byte highest; `option_type` is the byte `C` or `P`; `strike` is in mills.
+#[repr(C)]
 #[derive(Clone, Copy, Debug, Default, PartialEq, Eq)]
 pub struct Parts {
     pub root: u64,

@@ -6,7 +6,7 @@ use crate::{
     numbers::{ACCEPTED, BAD_MARKET, BAD_SETTING},
     order::lowest,
     run::Run,
-    slices::{market, setting, with, EXAMPLE_SETTINGS},
+    slices::{market, setting, setting::*, EXAMPLE_SETTINGS},
 };
 
 /// Values that a number cut short would take for others, and the largest.
@@ -31,7 +31,7 @@ pub fn of_settings() -> Vec<Limit> {
     let around = [0, 1, 2, 3, 599, 600, 601, 999, 1_000, 1_001, 9_999, 10_000];
     let far = [10_001, 999_999, 1_000_000, 1_000_001, (1 << 32) + 5];
     let values = [&around[..], &far, &EXTREMES].concat();
-    at_each_place(setting::TICK_BELOW_3000, &limits, &values)
+    at_each_place(TICK_BELOW_3000, &limits, &values)
 }
 
 /// The same for the market.
@@ -77,14 +77,21 @@ pub fn faults_together<C: Clone>(case: &C, faults: &[Fault<C>]) -> Vec<(C, u64)>
 }
 
 /// The examples' settings with every choice of switches, each with the first of some checks that is
-/// on, 0 if none is. A check is a number and the place of its switch.
-pub fn every_switching(checks: &[(u64, usize)]) -> Vec<(Vec<u64>, u64)> {
+/// on, 0 if none is.
+pub fn every_switching(rejecting: &[u64]) -> Vec<(Vec<u64>, u64)> {
+    let numbers = [20, 21, 22, 23, 24, 25, 26];
+    let places = [
+        CHECK_20, CHECK_21, CHECK_22, CHECK_23, CHECK_24, CHECK_25, CHECK_26,
+    ];
     let with_first = |switches: [u64; 7]| {
-        let changes: Vec<(usize, u64)> = (setting::CHECK_20..).zip(switches).collect();
-        let settings = with(&EXAMPLE_SETTINGS, &changes);
-        let first = checks.iter().find(|(_, switch)| settings[*switch] == 1);
-        let number = first.map_or(0, |(number, _)| *number);
-        (settings, number)
+        let (mut settings, mut first) = (EXAMPLE_SETTINGS.to_vec(), ACCEPTED);
+        for ((number, place), switch) in numbers.into_iter().zip(places).zip(switches).rev() {
+            settings[place] = switch;
+            if switch == 1 && rejecting.contains(&number) {
+                first = number;
+            }
+        }
+        (settings, first)
     };
     every(&[0, 1]).map(with_first).collect()
 }
@@ -94,30 +101,25 @@ pub fn wrong_lengths(right: usize) -> [usize; 4] {
     [0, right - 1, right + 1, 2 * right]
 }
 
-/// Settings and market of right and wrong lengths, each with the number of a case that gets some
-/// number with right ones.
+/// Right lengths of settings and market, and every wrong one up to twice the right one and a byte's
+/// range above it; with the number of a case that gets some number with right ones.
 pub fn every_length(number: u64) -> Vec<(usize, usize, u64)> {
-    let lengths = |right| [&[right][..], &wrong_lengths(right)].concat();
-    let mut all = Vec::new();
-    for settings in lengths(setting::LENGTH) {
-        for market in lengths(market::LENGTH) {
-            let numbers = [
-                (number, number != ACCEPTED),
-                (BAD_SETTING, settings != setting::LENGTH),
-                (BAD_MARKET, market != market::LENGTH),
-            ];
-            all.push((settings, market, lowest(&numbers).unwrap_or(ACCEPTED)));
-        }
-    }
-    all
-}
-
-/// The numbers over and over, to so many: to all lengths around the right ones, and to some of which a
-/// length cut short would make these.
-pub fn to_every_length(numbers: &[u64]) -> impl Iterator<Item = Vec<u64>> + '_ {
-    let cut_short = [1 << 8, 1 << 16].map(|more| numbers.len() + more);
-    let lengths = (0..=2 * numbers.len() + 1).chain(cut_short);
-    lengths.map(|length| numbers.iter().copied().cycle().take(length).collect())
+    let wrong = |right: usize| (0..right).chain(right + 1..=2 * right).chain([right + 256]);
+    let wrong = || (wrong(setting::LENGTH), wrong(market::LENGTH));
+    let right = [(setting::LENGTH, market::LENGTH)];
+    let settings = wrong().0.map(|length| (length, market::LENGTH));
+    let market = wrong().1.map(|length| (setting::LENGTH, length));
+    let both = wrong().0.zip(wrong().1);
+    let with_number = |(settings, market)| {
+        let numbers = [
+            (number, number != ACCEPTED),
+            (BAD_SETTING, settings != setting::LENGTH),
+            (BAD_MARKET, market != market::LENGTH),
+        ];
+        (settings, market, lowest(&numbers).unwrap_or(ACCEPTED))
+    };
+    let lengths = right.into_iter().chain(settings).chain(market).chain(both);
+    lengths.map(with_number).collect()
 }
 
 /// Where a number stands that is 0 for no, and anything else for yes.

@@ -23,6 +23,7 @@ pub struct Quote {
 }
 
 /// The whole answer of the quote check.
+#[repr(C)]
 #[derive(Clone, Copy, Debug, PartialEq, Eq)]
 pub struct QuoteAnswer {
     pub number: u64,

@@ -112,8 +112,6 @@ to run it again, in compare/:
             ("shape", &self.seen.shapes),
             ("pairings", &self.seen.pairings),
             ("cancel", &self.seen.cancels),
-            ("settings", &self.seen.settings_lengths),
-            ("market", &self.seen.market_lengths),
         ] {
             for (value, times) in counts {
                 println!("{name}: {what:>8} {value:>2} {times:>9} times");

@@ -46,15 +46,6 @@ pub const EXAMPLE_SETTINGS: [u64; setting::LENGTH] = [
 /// The market that heads document 01's examples: open, and every value missing.
 pub const EXAMPLE_MARKET: [u64; market::LENGTH] = [market::OPEN, 0, 0, 0, 0, 0, 0, 0, 0];
 
-/// The same numbers but for those at some places.
-pub fn with(numbers: &[u64], changes: &[(usize, u64)]) -> Vec<u64> {
-    let mut numbers = numbers.to_vec();
-    for &(place, value) in changes {
-        numbers[place] = value;
-    }
-    numbers
-}
-
 /// The numbers with their names, for a reader; those beyond the last name have none.
 pub fn described(names: &[&str], numbers: &[u64]) -> String {
     let names = names.iter().copied().chain(std::iter::repeat(""));

@@ -15,6 +15,7 @@ pub const TALLIED: &str = "tallied";
 
 const MOST_SEEN: i128 = 1_000_000;
 
+#[repr(C)]
 #[derive(Clone, Copy, Debug, Default, PartialEq, Eq)]
 pub struct Tally {
     pub seen: u64,

@@ -311,7 +311,7 @@ fn lengths_of_settings_and_market() {
         }
         list.finish();
     }
-    run.finish(&[9, 10, 12], 400 * 25 * 2);
+    run.finish(&[9, 10, 12], 400 * 80 * 2);
 }
 
 /// One list of a million checks from a fresh tally, and beyond. The arrivals are few, so the second

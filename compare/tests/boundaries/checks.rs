@@ -250,21 +250,16 @@ fn lowest_check_first() {
     let mut far_call = Arrival::limit(&[call(MARCH, 18_000).leg(1)], 20_000);
     (far_call.market[NBO], far_call.market[UNDERLYING]) = (1_200, 10_000);
     let vertical = [call(MARCH, 10_000).leg(1), call(MARCH, 20_000).leg(-1)];
-    let orders: [(Arrival, &[(u64, usize)]); 4] = [
-        (far_put, &[(20, CHECK_20), (25, CHECK_25)]),
-        (far_call, &[(21, CHECK_21), (25, CHECK_25)]),
-        (calls(&[1, 1], -1), &[(22, CHECK_22), (23, CHECK_23)]),
-        (
-            Arrival::limit(&vertical, -20_000),
-            &[(23, CHECK_23), (24, CHECK_24)],
-        ),
+    let orders: [(Arrival, &[u64]); 4] = [
+        (far_put, &[20, 25]),
+        (far_call, &[21, 25]),
+        (calls(&[1, 1], -1), &[22, 23]),
+        (Arrival::limit(&vertical, -20_000), &[23, 24]),
     ];
     for (order, rejecting) in orders {
         for (settings, number) in every_switching(rejecting) {
-            let arrival = Arrival {
-                settings,
-                ..order.clone()
-            };
+            let mut arrival = order.clone();
+            arrival.settings = settings;
             hold(&mut run, &arrival, number);
         }
     }

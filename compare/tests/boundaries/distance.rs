@@ -5,13 +5,16 @@ use compare::{
     arrival::Arrival,
     limits::every,
     run::Run,
-    slices::{market::*, setting::*, with, EXAMPLE_MARKET},
+    slices::{market::*, setting::*, EXAMPLE_MARKET, EXAMPLE_SETTINGS},
 };
 
 /// Every band with a distance of its own, and two ticks.
-const SETTINGS: [u64; 20] = [
-    1, 1, 1, 1, 1, 1, 1, 11, 13, 10, 2, 3, 5, 7, 300, 0, 600, 4, 0, 0,
-];
+fn settings() -> Vec<u64> {
+    let mut settings = EXAMPLE_SETTINGS.to_vec();
+    settings[TICK_BELOW_3000..=TICK_FROM_3000].copy_from_slice(&[11, 13]);
+    settings[ATD_BELOW_1000..=ATD_FROM_10000].copy_from_slice(&[2, 3, 5, 7]);
+    settings
+}
 
 /// References around the limits of bands, with D under those settings.
 const REFERENCES: [(u64, u64); 16] = [
@@ -43,12 +46,10 @@ fn markets(reference: u64) -> [[Vec<u64>; 2]; 4] {
     ]
     .map(|(phase, elsewhere, places)| {
         places.map(|place| {
-            let changes = [
-                (PHASE, phase),
-                (OPEN_ELSEWHERE, elsewhere),
-                (place, reference),
-            ];
-            with(&EXAMPLE_MARKET, &changes)
+            let mut market = EXAMPLE_MARKET.to_vec();
+            (market[PHASE], market[OPEN_ELSEWHERE]) = (phase, elsewhere);
+            market[place] = reference;
+            market
         })
     })
 }
@@ -60,14 +61,14 @@ fn every_band() {
         for [for_purchase, for_sale] in markets(reference) {
             for change in [-1, 0, 1] {
                 let mut bought = purchase();
-                bought.settings = SETTINGS.to_vec();
+                bought.settings = settings();
                 bought.market = for_purchase.clone();
                 bought.price = (reference + distance) as i64 + change;
                 hold(&mut run, &bought, if change > 0 { 25 } else { 0 });
                 hold_the_exceptions(&mut run, &bought);
 
                 let mut sold = sale();
-                sold.settings = SETTINGS.to_vec();
+                sold.settings = settings();
                 sold.market = for_sale.clone();
                 let amount = reference as i64 - distance as i64 + change;
                 if amount > 0 {
@@ -104,10 +105,7 @@ fn hold_the_exceptions(run: &mut Run, arrival: &Arrival) {
 fn largest_distance() {
     let mut run = Run::new("25 at most");
     let mut bought = purchase();
-    (
-        bought.settings[TICK_BELOW_3000],
-        bought.settings[TICK_FROM_3000],
-    ) = (1_000, 1_000);
+    bought.settings[TICK_BELOW_3000..=TICK_FROM_3000].fill(1_000);
     bought.settings[ATD_BELOW_1000..=ATD_FROM_10000].fill(1_000);
     for reference in [1, 2_999, 3_000, 1_000_000_000] {
         bought.market[NBO] = reference;
@@ -236,7 +234,7 @@ fn every_small_market() {
                 for amount in &amounts {
                     let arrival = Arrival {
                         price: amount * order.price.signum(),
-                        settings: SETTINGS.to_vec(),
+                        settings: settings(),
                         market: market.clone(),
                         ..order.clone()
                     };

@@ -3,10 +3,10 @@
 use super::{hold, purchase, sale, undetermined, MARCH};
 use compare::{
     arrival::{Answer, Arrival, RawLeg},
-    limits::{self, every_length, faults_together, to_every_length, Fault, EXTREMES},
+    limits::{self, every_length, faults_together, Fault, EXTREMES},
     run::Run,
     series::{call, put},
-    slices::{market::*, setting::*, EXAMPLE_MARKET, EXAMPLE_SETTINGS},
+    slices::{market::*, setting::*},
 };
 
 /// So many calls bought at rising strikes, at a price that no check rejects.
@@ -201,22 +201,6 @@ fn with_setting(place: usize, value: u64) -> Arrival {
 }
 
 #[test]
-fn lengths_of_settings_and_market() {
-    let mut run = Run::new("lengths of settings and market");
-    for settings in to_every_length(&EXAMPLE_SETTINGS) {
-        let number = if settings.len() == 20 { 0 } else { 9 };
-        let arrival = Arrival { settings, ..sale() };
-        hold(&mut run, &arrival, number);
-    }
-    for market in to_every_length(&EXAMPLE_MARKET) {
-        let number = if market.len() == 9 { 0 } else { 10 };
-        let arrival = Arrival { market, ..sale() };
-        hold(&mut run, &arrival, number);
-    }
-    run.finish(&[0, 9, 10], 64);
-}
-
-#[test]
 fn market() {
     let mut run = Run::new("market");
     for (place, value, within) in limits::of_market() {
@@ -275,5 +259,5 @@ fn lowest_number_first() {
             hold(&mut run, &arrival, number);
         }
     }
-    run.finish(&[0, 1, 3, 4, 5, 6, 7, 8, 9, 10], 25 * 512);
+    run.finish(&[0, 1, 3, 4, 5, 6, 7, 8, 9, 10], 80 * 512);
 }

@@ -5,12 +5,12 @@ use super::{hold, of_call, of_put, MARCH};
 use compare::{
     limits::{
         self, around_market_values, every_length, every_switching, faults_together, hold_flag,
-        to_every_length, Fault, Flag,
+        Fault, Flag,
     },
     quote::Quote,
     run::Run,
     series::{call, put},
-    slices::{market::*, setting::*, with, EXAMPLE_MARKET, EXAMPLE_SETTINGS},
+    slices::{market::*, setting::*},
 };
 
 const LARGEST: u64 = 1_000_000_000;
@@ -66,24 +66,21 @@ fn settings() {
         hold(&mut run, &with_setting(plain(), place, value), number);
     }
     for (minimum, maximum, number) in [(601, 601, 0), (602, 601, 9), (1_000_001, 1_000_001, 9)] {
-        let quote = with_setting(
-            with_setting(plain(), PRESET_MINIMUM, minimum),
-            PRESET_MAXIMUM,
-            maximum,
-        );
+        let mut quote = plain();
+        quote.settings[PRESET_MINIMUM..=PRESET_MAXIMUM].copy_from_slice(&[minimum, maximum]);
         hold(&mut run, &quote, number);
     }
     run.finish(&[0, 9], 2 * 11 * 21);
 }
 
-fn with_setting(quote: Quote, place: usize, value: u64) -> Quote {
-    let settings = with(&quote.settings, &[(place, value)]);
-    Quote { settings, ..quote }
+fn with_setting(mut quote: Quote, place: usize, value: u64) -> Quote {
+    quote.settings[place] = value;
+    quote
 }
 
-fn with_market(quote: Quote, place: usize, value: u64) -> Quote {
-    let market = with(&quote.market, &[(place, value)]);
-    Quote { market, ..quote }
+fn with_market(mut quote: Quote, place: usize, value: u64) -> Quote {
+    quote.market[place] = value;
+    quote
 }
 
 #[test]
@@ -96,25 +93,6 @@ fn markets() {
         hold(&mut run, &with_market(quote, place, value), number);
     }
     run.finish(&[0, 10], 2 * 9 * 12);
-}
-
-#[test]
-fn lengths_of_settings_and_market() {
-    let mut run = Run::new("lengths in quotes");
-    for settings in to_every_length(&EXAMPLE_SETTINGS) {
-        let number = if settings.len() == 20 { 0 } else { 9 };
-        let quote = Quote {
-            settings,
-            ..plain()
-        };
-        hold(&mut run, &quote, number);
-    }
-    for market in to_every_length(&EXAMPLE_MARKET) {
-        let number = if market.len() == 9 { 0 } else { 10 };
-        let quote = Quote { market, ..plain() };
-        hold(&mut run, &quote, number);
-    }
-    run.finish(&[0, 9, 10], 2 * 64);
 }
 
 /// Any faults together, settings and market of any length, and what 20 and 26 reject: the lowest
@@ -140,7 +118,7 @@ fn lowest_number_first() {
             hold(&mut run, &quote, number);
         }
     }
-    run.finish(&[0, 1, 4, 9, 10, 11, 20, 26], 2 * 25 * 128);
+    run.finish(&[0, 1, 4, 9, 10, 11, 20, 26], 2 * 80 * 128);
 }
 
 #[test]
@@ -222,8 +200,7 @@ const ROWS: [Row; 22] = [
     ([0, 0, 0, 0], 0, 0),
 ];
 
-fn market_of(prices: [u64; 4], quote: Quote) -> Quote {
-    let mut quote = quote;
+fn market_of(prices: [u64; 4], mut quote: Quote) -> Quote {
     quote.market[NBB..=OWN_OFFER].copy_from_slice(&prices);
     quote
 }
@@ -310,8 +287,7 @@ fn ticks() {
     for (price, set_ticks, highest_bid, lowest_offer) in TICKS {
         let mut quote = plain();
         quote.settings[SET_TICKS] = set_ticks;
-        quote.settings[TICK_BELOW_3000] = 11;
-        quote.settings[TICK_FROM_3000] = 13;
+        quote.settings[TICK_BELOW_3000..=TICK_FROM_3000].copy_from_slice(&[11, 13]);
         // The own price is the best, beside one that is missing or far away; or the NBBO is
         // unavailable or locked. The far prices are further than a quote can go.
         for prices in [
@@ -342,8 +318,7 @@ fn largest_prices() {
     let mut run = Run::new("26 at most");
     let mut quote = plain();
     quote.settings[SET_TICKS] = 1_000;
-    quote.settings[TICK_BELOW_3000] = 1_000;
-    quote.settings[TICK_FROM_3000] = 1_000;
+    quote.settings[TICK_BELOW_3000..=TICK_FROM_3000].fill(1_000);
     let at_best = |best| market_of([best, 0, best, 0], quote.clone());
     hold_row(&mut run, &at_best(LARGEST), 0, LARGEST - 1_000_000);
     hold_row(&mut run, &at_best(1_000_002), 0, 0);
@@ -364,21 +339,16 @@ fn switches() {
     let mut far_call = market_of(both, of_call(20_000, 20_001));
     far_call.market[UNDERLYING] = 10_000;
     let low_offer = market_of(both, of_call(900, 959));
-    let quotes: [(Quote, &[(u64, usize)]); 4] = [
-        (
-            market_of(both, of_put(18_000, 18_000, 18_001)),
-            &[(20, CHECK_20), (26, CHECK_26)],
-        ),
-        (far_call, &[(21, CHECK_21), (26, CHECK_26)]),
-        (low_offer, &[(26, CHECK_26)]),
+    let quotes: [(Quote, &[u64]); 4] = [
+        (market_of(both, of_put(18_000, 18_000, 18_001)), &[20, 26]),
+        (far_call, &[21, 26]),
+        (low_offer, &[26]),
         (market_of(both, plain()), &[]),
     ];
     for (quote, rejecting) in quotes {
         for (settings, number) in every_switching(rejecting) {
-            let quote = Quote {
-                settings,
-                ..quote.clone()
-            };
+            let mut quote = quote.clone();
+            quote.settings = settings;
             hold(&mut run, &quote, number);
         }
     }
@@ -419,13 +389,12 @@ fn any_other_value_is_yes() {
 /// What only orders read changes nothing, as long as it is within its limits.
 #[test]
 fn what_only_orders_read_changes_nothing() {
+    let checks_and_amounts = (CHECK_22..=CHECK_25).chain(NET_INCREMENT..=PRESET_MAXIMUM);
+    let only_orders: Vec<usize> = checks_and_amounts.chain([EUROPEAN]).collect();
     let mut run = Run::new("only orders");
     for (quote, _) in flags() {
         let answer = run.compare(&quote);
-        for place in (CHECK_22..=CHECK_25)
-            .chain(NET_INCREMENT..=PRESET_MAXIMUM)
-            .chain([EUROPEAN])
-        {
+        for &place in &only_orders {
             for value in [2, 600] {
                 let other = with_setting(quote.clone(), place, value);
                 assert_eq!(run.compare(&other), answer, "{other}");
