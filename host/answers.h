@@ -9,35 +9,46 @@
 
 #include <stdbool.h>
 
-/* "unknown" where the value has no name; a list may have gaps. */
-static inline const char *name_in(const char *const names[], size_t len, uint64_t value) {
-    return value < len && names[value] != NULL ? names[value] : "unknown";
+/* A row of the header's table of numbers, its outcome apart. */
+struct number_row {
+    uint64_t number;
+    const char *name, *author, *word, *meaning;
+};
+
+#define NUMBER_ROW(name, number, outcome, author, word, meaning)                                   \
+    {number, #name, author, word, meaning},
+static const struct number_row number_rows[] = {OPC_NUMBERS(NUMBER_ROW)};
+
+/* For a number that the table does not have. */
+static const struct number_row unknown_row = {0, "", "library", "unknown", "an unknown number"};
+
+static inline const struct number_row *row_of(uint64_t number) {
+    for (size_t i = 0; i < COUNT(number_rows); i++) {
+        if (number_rows[i].number == number) {
+            return &number_rows[i];
+        }
+    }
+    return &unknown_row;
 }
 
-static inline const char *number_name(uint64_t number) {
+static inline bool is_known(uint64_t number) { return row_of(number) != &unknown_row; }
+
+/* A set of numbers below 63: bit n is number n. Larger ones are all bit 63, which none has. */
+static inline uint64_t only(uint64_t number) { return 1ULL << (number < 63 ? number : 63); }
+
+static inline const char *number_name(uint64_t number) { return row_of(number)->word; }
+
+static inline const char *name_in(const char *const names[], size_t len, uint64_t value) {
+    return value < len ? names[value] : "unknown";
+}
+
+static inline const char *outcome_name(enum opc_outcome outcome) {
     static const char *const names[] = {
-        [OPC_ACCEPTED] = "accepted",
-        [OPC_NOT_21_BYTES] = "not 21 bytes",
-        [OPC_SHORT_BUFFER] = "short buffer",
-        [OPC_BAD_LEG_COUNT] = "number of legs",
-        [OPC_BAD_SYMBOL] = "outside layout",
-        [OPC_BAD_COUNT] = "count",
-        [OPC_SERIES_TWICE] = "series twice",
-        [OPC_ROOTS_DIFFER] = "roots differ",
-        [OPC_BAD_PRICE] = "price",
-        [OPC_BAD_SETTING] = "setting",
-        [OPC_BAD_MARKET] = "market value",
-        [OPC_BAD_QUOTE] = "bid and offer",
-        [OPC_BAD_TALLY] = "tally",
-        [OPC_CHECK_PUT] = "put check",
-        [OPC_CHECK_CALL] = "call check",
-        [OPC_CHECK_BUY_BUY] = "buy-buy/sell-sell",
-        [OPC_CHECK_DEBIT_CREDIT] = "debit/credit",
-        [OPC_CHECK_MAXIMUM_VALUE] = "maximum value",
-        [OPC_CHECK_TICK_DISTANCE] = "tick distance",
-        [OPC_CHECK_QUOTE_INVERSION] = "quote inversion",
+        [OPC_OUTCOME_ACCEPTED] = "accepted",
+        [OPC_OUTCOME_REFUSED] = "refused",
+        [OPC_OUTCOME_REJECTED] = "rejected",
     };
-    return name_in(names, COUNT(names), number);
+    return name_in(names, COUNT(names), outcome);
 }
 
 static inline const char *class_name(uint64_t class_) {

@@ -320,66 +320,22 @@ static bool take_words(struct line *line, const char *const names[], uint64_t *c
 
 /* ---- verdicts in words ---- */
 
-enum outcome { UNKNOWN, ACCEPTED, REFUSED, REJECTED };
-
-struct verdict {
-    enum outcome outcome;
-    const char *author, *meaning;
-};
-
-static const char the_host[] = "the host";
-static const char the_firm[] = "the trading firm";
-
-static const struct verdict verdicts[] = {
-    [OPC_ACCEPTED] = {ACCEPTED, NULL, NULL},
-    [OPC_NOT_21_BYTES] = {REFUSED, the_host, "the symbols' bytes are not 21 each"},
-    [OPC_SHORT_BUFFER] = {REFUSED, the_host, "there are fewer than 21 bytes to write in"},
-    [OPC_BAD_LEG_COUNT] = {REFUSED, the_firm, "it has no leg, or more than 16"},
-    [OPC_BAD_SYMBOL] = {REFUSED, the_firm, "a symbol is outside the layout"},
-    [OPC_BAD_COUNT] = {REFUSED, the_firm, "a count is outside its limits"},
-    [OPC_SERIES_TWICE] = {REFUSED, the_firm, "a series is there twice"},
-    [OPC_ROOTS_DIFFER] = {REFUSED, the_firm, "the roots differ"},
-    [OPC_BAD_PRICE] = {REFUSED, the_firm,
-                       "the price is too large, or has the wrong sign for one leg"},
-    [OPC_BAD_SETTING] = {REFUSED, "the exchange's settings", "one is outside its limits"},
-    [OPC_BAD_MARKET] = {REFUSED, "the feed", "the phase or a market value is outside its limits"},
-    [OPC_BAD_QUOTE] = {REFUSED, the_firm,
-                       "bid or offer is outside its limits, or the bid is not below"},
-    [OPC_BAD_TALLY] = {REFUSED, the_host, "the tally is full, or does not add up"},
-    [OPC_CHECK_PUT] = {REJECTED, "the put check", "too high for a put"},
-    [OPC_CHECK_CALL] = {REJECTED, "the call check", "too high for a call"},
-    [OPC_CHECK_BUY_BUY] = {REJECTED, "the buy-buy/sell-sell check",
-                           "too low for so many contracts"},
-    [OPC_CHECK_DEBIT_CREDIT] = {REJECTED, "the debit/credit check",
-                                "the price's sign is not the class's"},
-    [OPC_CHECK_MAXIMUM_VALUE] = {REJECTED, "the maximum value check",
-                                 "the price is above what the shape can be worth"},
-    [OPC_CHECK_TICK_DISTANCE] = {REJECTED, "the tick distance check",
-                                 "the price is too far from its reference"},
-    [OPC_CHECK_QUOTE_INVERSION] = {REJECTED, "the quote inversion check",
-                                   "the bid or the offer inverts the market"},
-};
-
-/* Prints the number with its words, and gives the outcome. */
-static enum outcome print_verdict(uint64_t number) {
-    static const struct verdict unknown = {UNKNOWN, NULL, NULL};
-    static const char *const outcomes[] = {
-        [UNKNOWN] = "unknown",
-        [ACCEPTED] = "accepted",
-        [REFUSED] = "refused by the doing of ",
-        [REJECTED] = "rejected by ",
-    };
-    const struct verdict *verdict = number < COUNT(verdicts) ? &verdicts[number] : &unknown;
-    printf("%" PRIu64 " %s", number, outcomes[verdict->outcome]);
-    if (verdict->author != NULL) {
-        printf("%s: %s", verdict->author, verdict->meaning);
+/* Prints the number with its words. */
+static void print_verdict(uint64_t number) {
+    const struct number_row *row = row_of(number);
+    enum opc_outcome outcome = opc_outcome_of(number);
+    printf("%" PRIu64 " %s", number, outcome_name(outcome));
+    if (outcome == OPC_OUTCOME_REFUSED) {
+        printf(" by the doing of the %s: %s", row->author, row->meaning);
+    } else if (outcome == OPC_OUTCOME_REJECTED) {
+        printf(" by %s", row->meaning);
     }
-    return verdict->outcome;
 }
 
 static void print_order_answer(uint64_t line_number, const struct opc_answer *answer) {
     printf("%" PRIu64 ": order: ", line_number);
-    if (print_verdict(answer->number) != REFUSED) {
+    print_verdict(answer->number);
+    if (opc_outcome_of(answer->number) != OPC_OUTCOME_REFUSED) {
         printf("; class %s, shape %s, %" PRIu64 " %s", class_name(answer->class_),
                shape_name(answer->shape), answer->pairings,
                answer->pairings == 1 ? "pairing" : "pairings");

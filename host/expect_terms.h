@@ -1,6 +1,7 @@
 /*
  * The settings and the market that an order or a quote under test is checked against: each field
- * tried at its limits and beyond them, and all of them printed for the message of a failure.
+ * tried at its limits and beyond them, then other lengths, and all of them printed for the message
+ * of a failure.
  */
 #ifndef EXPECT_TERMS_H
 #define EXPECT_TERMS_H
@@ -55,6 +56,21 @@ static inline void expect_market_limits(expect_given *expect_made, void *made,
     }
 }
 
+/* Slices of other lengths: refused as a value outside its limits is, the settings first. */
+static inline void expect_lengths(expect_given *expect_made, void *made, size_t *settings_len,
+                                  size_t *market_len) {
+    for (size_t i = 0; i < OTHER_LENGTHS; i++) {
+        *settings_len = other_settings[i];
+        expect_made(made, OPC_BAD_SETTING, "settings of another length");
+        *market_len = other_market[i];
+        expect_made(made, OPC_BAD_SETTING, "settings and market of another length");
+        *settings_len = OPC_SETTINGS_COUNT;
+        expect_made(made, OPC_BAD_MARKET, "a market of another length");
+        *market_len = OPC_MARKET_COUNT;
+        expect_made(made, OPC_ACCEPTED, "settings and market of their lengths");
+    }
+}
+
 static inline void print_numbers(const char *what, const uint64_t *numbers, size_t len) {
     fprintf(stderr, "  %s:", what);
     for (size_t i = 0; i < len; i++) {
@@ -63,11 +79,14 @@ static inline void print_numbers(const char *what, const uint64_t *numbers, size
     fprintf(stderr, "\n");
 }
 
-static inline void print_terms(const struct opc_settings *s, const struct opc_market *m) {
-    const uint64_t settings[] = {EACH_OF_SETTINGS(s)};
-    const uint64_t market[] = {EACH_OF_MARKET(m)};
+static inline void print_terms(const struct opc_settings *s, size_t settings_len,
+                               const struct opc_market *m, size_t market_len) {
+    uint64_t settings[OPC_SETTINGS_COUNT], market[OPC_MARKET_COUNT];
+    memcpy(settings, s, sizeof settings);
+    memcpy(market, m, sizeof market);
     print_numbers("settings", settings, COUNT(settings));
     print_numbers("market", market, COUNT(market));
+    fprintf(stderr, "  lent: %zu of settings and %zu of market\n", settings_len, market_len);
 }
 
 #endif

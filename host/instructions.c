@@ -99,7 +99,7 @@ static void expect(bool holds, const char *kind, size_t legs) {
     }
 }
 
-static bool is_valid(uint64_t number) { return number == OPC_ACCEPTED || number >= OPC_CHECK_PUT; }
+static bool is_valid(uint64_t number) { return opc_outcome_of(number) != OPC_OUTCOME_REFUSED; }
 
 /* An order that pays 1.20 dollars, lent in the sequence in which it is made and in reverse. */
 static void check_kind(void (*add_legs)(struct made_order *, size_t), const char *kind,

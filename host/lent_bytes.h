@@ -8,8 +8,10 @@
 #ifndef LENT_BYTES_H
 #define LENT_BYTES_H
 
+#include "expect.h"
 #include "made_orders.h"
 
+#include <errno.h>
 #include <stdlib.h>
 #include <sys/mman.h>
 #include <unistd.h>
@@ -23,7 +25,7 @@ static inline uint8_t *forbidden_page(void) {
     int private_memory = MAP_PRIVATE | MAP_ANONYMOUS;
     uint8_t *pages = mmap(NULL, 2 * page, PROT_READ | PROT_WRITE, private_memory, -1, 0);
     if (pages == MAP_FAILED || mprotect(pages + page, page, PROT_NONE) != 0) {
-        perror("lent_bytes: a forbidden page");
+        fprintf(stderr, "%s: no forbidden page: %s\n", test_name, strerror(errno));
         exit(2);
     }
     return pages + page;
@@ -49,6 +51,36 @@ static inline const uint8_t *lend_bytes(struct lent_bytes *lent, const uint8_t *
 
 static inline bool are_kept(const struct lent_bytes *lent) {
     return memcmp(lent->end - lent->len - GUARD, lent->before, GUARD + lent->len) == 0;
+}
+
+/* The first `len` numbers of a struct, and a 0 beyond them; NULL where there are none. */
+static inline const uint64_t *lend_numbers(struct lent_bytes *lent, const void *from, size_t size,
+                                           size_t len) {
+    uint8_t bytes[LARGEST] = {0};
+    memcpy(bytes, from, size);
+    const void *at = lend_bytes(lent, bytes, len * sizeof(uint64_t));
+    return len == 0 ? NULL : at;
+}
+
+/* Settings and market lent in this way. */
+struct lent_terms {
+    struct lent_bytes settings_bytes, market_bytes;
+    const uint64_t *settings, *market;
+    size_t settings_len, market_len;
+};
+
+#define EACH_OF_TERMS(t) (t)->settings, (t)->settings_len, (t)->market, (t)->market_len
+
+static inline void lend_terms(struct lent_terms *t, const struct opc_settings *s,
+                              size_t settings_len, const struct opc_market *m, size_t market_len) {
+    t->settings = lend_numbers(&t->settings_bytes, s, sizeof *s, settings_len);
+    t->market = lend_numbers(&t->market_bytes, m, sizeof *m, market_len);
+    t->settings_len = settings_len;
+    t->market_len = market_len;
+}
+
+static inline bool terms_are_kept(const struct lent_terms *t) {
+    return are_kept(&t->settings_bytes) && are_kept(&t->market_bytes);
 }
 
 #endif

@@ -26,21 +26,22 @@ struct made_order {
     uint64_t kind, stop, manual, opening;
     struct opc_settings settings;
     struct opc_market market;
+    size_t settings_len, market_len;
 };
 
-/* Each field by itself, as the entries take them. */
+/* As the entries take them; the slices of an order, or of a quote, that was made. */
 #define EACH_OF_ORDER(o)                                                                           \
     (o)->symbols, (o)->symbols_len, (o)->counts, (o)->counts_len, (o)->price, (o)->kind,           \
         (o)->stop, (o)->manual, (o)->opening
-#define EACH_OF_SETTINGS(s)                                                                        \
-    (s)->check_20, (s)->check_21, (s)->check_22, (s)->check_23, (s)->check_24, (s)->check_25,      \
-        (s)->check_26, (s)->tick_below_3000, (s)->tick_from_3000, (s)->net_increment,              \
-        (s)->atd_below_1000, (s)->atd_to_2999, (s)->atd_to_9999, (s)->atd_from_10000,              \
-        (s)->percentage, (s)->preset_minimum, (s)->preset_maximum, (s)->set_ticks, (s)->adjusted,  \
-        (s)->european_index
-#define EACH_OF_MARKET(m)                                                                          \
-    (m)->phase, (m)->open_elsewhere, (m)->extended_hours, (m)->underlying, (m)->nbb, (m)->nbo,     \
-        (m)->own_bid, (m)->own_offer, (m)->previous_close
+#define SLICES_OF(made)                                                                            \
+    (const uint64_t *)&(made)->settings, (made)->settings_len, (const uint64_t *)&(made)->market,  \
+        (made)->market_len
+
+/* Other numbers of settings and of market values than there are. */
+#define OTHER_LENGTHS 3
+static const size_t other_settings[OTHER_LENGTHS] = {0, OPC_SETTINGS_COUNT - 1,
+                                                     OPC_SETTINGS_COUNT + 1};
+static const size_t other_market[OTHER_LENGTHS] = {0, OPC_MARKET_COUNT - 1, OPC_MARKET_COUNT + 1};
 
 /* A field that has limits. */
 struct limited {
@@ -76,7 +77,10 @@ static inline uint8_t *count_at(struct made_order *m, size_t leg) {
 
 /* An order of no leg, with document 01's example settings and an empty market. */
 static inline struct made_order no_legs(void) {
-    struct made_order m = {.settings = OPC_EXAMPLE_SETTINGS, .market = OPC_EMPTY_MARKET};
+    struct made_order m = {.settings = OPC_EXAMPLE_SETTINGS,
+                           .market = OPC_EMPTY_MARKET,
+                           .settings_len = OPC_SETTINGS_COUNT,
+                           .market_len = OPC_MARKET_COUNT};
     return m;
 }
 
@@ -235,7 +239,7 @@ static inline int64_t random_price(const struct made_order *m) {
     return one_in(2) ? (int64_t)size : -(int64_t)size;
 }
 
-/* A valid order: no number of 1 to 10 applies. */
+/* A valid order: no refusal applies. */
 static inline struct made_order random_order(size_t legs) {
     struct made_order m = no_legs();
     random_legs(&m, legs);
@@ -286,16 +290,25 @@ static inline void damage_price(struct made_order *m) {
     m->price = wrong[below(COUNT(wrong))];
 }
 
-static inline void damage_settings(struct opc_settings *s) {
+/* A value outside its limits, or another number of values. */
+static inline void damage_settings(struct opc_settings *s, size_t *len) {
     const struct limited fields[] = LIMITED_SETTINGS(s);
     uint64_t wrong = one_in(2) ? 1000001 : next_random() | 1ULL << 63;
-    *fields[below(COUNT(fields))].field = wrong;
+    if (one_in(4)) {
+        *len = other_settings[below(OTHER_LENGTHS)];
+    } else {
+        *fields[below(COUNT(fields))].field = wrong;
+    }
 }
 
-static inline void damage_market(struct opc_market *m) {
+static inline void damage_market(struct opc_market *m, size_t *len) {
     uint64_t *fields[] = {&m->phase, MARKET_VALUES(m)};
     uint64_t wrong = one_in(2) ? 1000000001 : next_random() | 1ULL << 63;
-    *fields[below(COUNT(fields))] = wrong;
+    if (one_in(4)) {
+        *len = other_market[below(OTHER_LENGTHS)];
+    } else {
+        *fields[below(COUNT(fields))] = wrong;
+    }
 }
 
 /* The numbers that refuse an order, lowest first. */
@@ -332,10 +345,10 @@ static inline void damage(struct made_order *m, uint64_t number) {
         damage_price(m);
         break;
     case OPC_BAD_SETTING:
-        damage_settings(&m->settings);
+        damage_settings(&m->settings, &m->settings_len);
         break;
     default:
-        damage_market(&m->market);
+        damage_market(&m->market, &m->market_len);
         break;
     }
 }

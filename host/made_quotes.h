@@ -18,6 +18,7 @@ struct made_quote {
     uint64_t bid, offer, resting;
     struct opc_settings settings;
     struct opc_market market;
+    size_t settings_len, market_len;
 };
 
 #define EACH_OF_QUOTE(q) (q)->symbol, (q)->symbol_len, (q)->bid, (q)->offer, (q)->resting
@@ -28,7 +29,9 @@ static inline struct made_quote quote_for(const char *symbol, uint64_t bid, uint
                            .bid = bid,
                            .offer = offer,
                            .settings = OPC_EXAMPLE_SETTINGS,
-                           .market = OPC_EMPTY_MARKET};
+                           .market = OPC_EMPTY_MARKET,
+                           .settings_len = OPC_SETTINGS_COUNT,
+                           .market_len = OPC_MARKET_COUNT};
     memcpy(q.symbol, symbol, OPC_SYMBOL_LENGTH);
     return q;
 }
@@ -54,14 +57,14 @@ static inline uint64_t random_bid(const struct opc_market *k) {
 }
 
 /*
- * A valid quote: no number of 1 to 11 applies. The exchange's own prices are often the national
- * best, since the set ticks count only there.
+ * A valid quote: no refusal applies. The exchange's own prices are often the national best, since
+ * the set ticks count only there.
  */
 static inline struct made_quote random_quote(void) {
     struct made_order order = random_order(1);
-    struct made_quote q = {
-        .symbol_len = OPC_SYMBOL_LENGTH, .settings = order.settings, .market = order.market};
-    memcpy(q.symbol, order.symbols, OPC_SYMBOL_LENGTH);
+    struct made_quote q = quote_for((const char *)order.symbols, 0, 0);
+    q.settings = order.settings;
+    q.market = order.market;
     if (one_in(2)) {
         q.market.own_bid = q.market.nbb;
     }
@@ -110,10 +113,10 @@ static inline void damage_quote(struct made_quote *q, uint64_t number) {
         damage_symbol(q->symbol);
         break;
     case OPC_BAD_SETTING:
-        damage_settings(&q->settings);
+        damage_settings(&q->settings, &q->settings_len);
         break;
     case OPC_BAD_MARKET:
-        damage_market(&q->market);
+        damage_market(&q->market, &q->market_len);
         break;
     default:
         damage_prices(q);

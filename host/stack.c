@@ -45,22 +45,19 @@ static void call_read(void) { number = opc_read_symbol_parts(buffer, buffer_len,
 static void call_write(void) { opc_write_symbol_parts(&parts, buffer, buffer_len, &number); }
 
 static void call_check(void) {
-    answer.number = opc_check_order(EACH_OF_ORDER(&made), EACH_OF_SETTINGS(&made.settings),
-                                    EACH_OF_MARKET(&made.market), &answer.class_, &answer.shape,
-                                    &answer.pairings);
+    answer.number = opc_check_order(EACH_OF_ORDER(&made), SLICES_OF(&made), &answer.class_,
+                                    &answer.shape, &answer.pairings);
 }
 
 static void call_check_tallied(void) {
-    answer.number = opc_check_order_tallied(EACH_OF_ORDER(&made), EACH_OF_SETTINGS(&made.settings),
-                                            EACH_OF_MARKET(&made.market), &answer.class_,
+    answer.number = opc_check_order_tallied(EACH_OF_ORDER(&made), SLICES_OF(&made), &answer.class_,
                                             &answer.shape, &answer.pairings, &tally.seen,
                                             &tally.refused, &tally.accepted, &tally.rejected);
 }
 
 static void call_check_quote(void) {
     quote_answer.number =
-        opc_check_quote(EACH_OF_QUOTE(&made_quote), EACH_OF_SETTINGS(&made_quote.settings),
-                        EACH_OF_MARKET(&made_quote.market), &quote_answer.cancel);
+        opc_check_quote(EACH_OF_QUOTE(&made_quote), SLICES_OF(&made_quote), &quote_answer.cancel);
 }
 
 static void on_painted_stack(void (*call)(void)) {

@@ -1,8 +1,9 @@
 /*
- * Holds docs/HOST.md to the library: its table "The numbers of each entry" is read, and each entry
- * must give every number that it says and no other, in calls made by chance. Every class, shape and
- * cancel flag is given too. Run at the top of the repository. Exit status 1 and a message on the
- * first failure, one line with the number of checks otherwise.
+ * Holds docs/HOST.md to the header and the library. Its table "The numbers" has the rows of the
+ * header's table. Its table "The numbers of each entry" is read, and each entry must give every
+ * number that it says and no other, in calls made by chance. Every class, shape and cancel flag is
+ * given too. Run at the top of the repository. Exit status 1 and a message on the first failure,
+ * one line with the number of checks otherwise.
  */
 #include "answers.h"
 #include "expect.h"
@@ -14,13 +15,37 @@
 
 static const char *const test_name = "test_numbers";
 
-/* The entry tried last, for the message of a failure. */
+/* The entry or the name tried last, for the message of a failure. */
 static const char *tried = "";
 
-static void print_tried(void) { fprintf(stderr, "  entry: %s\n", tried); }
+static void print_tried(void) { fprintf(stderr, "  of: %s\n", tried); }
 
-/* A set of numbers below 64: bit n is number n. Larger ones are all bit 63, which none has. */
-static uint64_t only(uint64_t number) { return 1ULL << (number < 63 ? number : 63); }
+/* docs/HOST.md, from these words on. */
+static const char *document_from(const char *words) {
+    static char text[1 << 16];
+    FILE *file = fopen("docs/HOST.md", "r");
+    expect(file != NULL, "docs/HOST.md cannot be opened");
+    text[fread(text, 1, sizeof text - 1, file)] = 0;
+    fclose(file);
+    const char *at = strstr(text, words);
+    expect(at != NULL, "a table is not in docs/HOST.md");
+    return at + strlen(words);
+}
+
+/* Each row is the header's, with more words or none after the meaning. */
+static void test_table(void) {
+    const char *line = document_from("| outcome | author | meaning |\n|---|---|---|---|---|\n");
+    for (size_t i = 0; i < COUNT(number_rows); i++) {
+        const struct number_row *r = &number_rows[i];
+        char row[512];
+        int len = snprintf(row, sizeof row, "| %" PRIu64 " | `%s` | %s | %s | %s", r->number,
+                           r->name, outcome_name(opc_outcome_of(r->number)), r->author, r->meaning);
+        tried = r->name;
+        expect(strncmp(line, row, (size_t)len) == 0, "not the row that docs/HOST.md has");
+        line += strcspn(line, "\n") + 1;
+    }
+    expect(*line == '\n', "docs/HOST.md has a row after the header's last");
+}
 
 /* The numbers that a field of the table names, as in "0, 3 to 5 |". */
 static uint64_t numbers_in(const char *field) {
@@ -40,20 +65,11 @@ static uint64_t numbers_in(const char *field) {
 
 /* The numbers that docs/HOST.md says of an entry. */
 static uint64_t documented(const char *entry) {
-    char line[256], row[64];
-    uint64_t set = 0;
-    bool in_table = false;
-    FILE *text = fopen("docs/HOST.md", "r");
-    expect(text != NULL, "docs/HOST.md cannot be opened");
-    int len = snprintf(row, sizeof row, "| `%s` | ", entry);
-    while (fgets(line, sizeof line, text) != NULL) {
-        in_table |= strcmp(line, "| entry | numbers |\n") == 0;
-        if (in_table && strncmp(line, row, (size_t)len) == 0) {
-            set |= numbers_in(line + len);
-        }
-    }
-    fclose(text);
-    return set;
+    char row[64];
+    snprintf(row, sizeof row, "\n| `%s` | ", entry);
+    const char *at = strstr(document_from("| entry | numbers |"), row);
+    expect(at != NULL, "an entry without a row in docs/HOST.md");
+    return numbers_in(at + strlen(row));
 }
 
 /* A valid symbol, a damaged one, or one of another length. */
@@ -119,21 +135,23 @@ static void test_numbers(void) {
         {"opc_check_order", number_of_order}, {"opc_check_order_tallied", number_tallied},
         {"opc_check_quote", number_of_quote},
     };
-    uint64_t all = 0;
+    uint64_t all = 0, rows = 0;
     for (size_t i = 0; i < COUNT(entries); i++) {
         tried = entries[i].name;
         uint64_t said = documented(tried), given = 0;
         for (size_t n = 0; n < RANDOM_CASES; n++) {
             uint64_t number = entries[i].number();
             expect((said & only(number)) != 0, "a number that docs/HOST.md does not say");
-            expect(strcmp(number_name(number), "unknown") != 0, "a number without a name");
             given |= only(number);
         }
         expect(given == said, "a number that docs/HOST.md says, and no call was given");
         all |= given;
     }
+    for (size_t i = 0; i < COUNT(number_rows); i++) {
+        rows |= only(number_rows[i].number);
+    }
     tried = "all of them";
-    expect(all == numbers_in("0 to 12, 20 to 26 |"), "a number that no entry gives");
+    expect(all == rows, "a number of the header that no entry gives, or one that it does not have");
 }
 
 /* One order of each shape, and of each class. */
@@ -182,6 +200,7 @@ static void test_cancel_flag(void) {
 }
 
 int main(void) {
+    test_table();
     test_numbers();
     test_shapes_and_classes();
     test_cancel_flag();

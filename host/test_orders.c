@@ -1,6 +1,6 @@
 /*
- * Holds the order check to exact answers, and its inline wrapper to the raw entry. Exit status 1
- * and a message on the first failure, one line with the number of checks otherwise.
+ * Holds the order check to exact answers. Exit status 1 and a message on the first failure, one
+ * line with the number of checks otherwise.
  */
 #define _DEFAULT_SOURCE /* for lent_bytes.h */
 #include "answers.h"
@@ -25,28 +25,22 @@ static void print_tried(void) {
     }
     fprintf(stderr, "\n  price: %" PRId64 "\n", now.price);
     print_numbers("kind, stop, manual, opening", flags, COUNT(flags));
-    print_terms(&now.settings, &now.market);
+    print_terms(&now.settings, now.settings_len, &now.market, now.market_len);
 }
 
-static struct opc_answer raw_answer(const struct opc_order *o, const struct opc_settings *s,
-                                    const struct opc_market *m, uint64_t garbage) {
+static struct opc_answer raw_answer(const struct opc_order *o, const struct lent_terms *t,
+                                    uint64_t garbage) {
     struct opc_answer a = {garbage, garbage, garbage, garbage};
-    a.number = opc_check_order(EACH_OF_ORDER(o), EACH_OF_SETTINGS(s), EACH_OF_MARKET(m), &a.class_,
-                               &a.shape, &a.pairings);
+    a.number =
+        opc_check_order(EACH_OF_ORDER(o), EACH_OF_TERMS(t), &a.class_, &a.shape, &a.pairings);
     return a;
 }
 
-static bool is_documented(uint64_t number) {
-    return number <= OPC_NOT_21_BYTES ||
-           (number >= OPC_BAD_LEG_COUNT && number <= OPC_BAD_MARKET) ||
-           (number >= OPC_CHECK_PUT && number <= OPC_CHECK_TICK_DISTANCE);
-}
-
-static bool is_refusal(uint64_t number) { return number >= 1 && number <= OPC_BAD_MARKET; }
+static bool is_refusal(uint64_t number) { return opc_outcome_of(number) == OPC_OUTCOME_REFUSED; }
 
 /* What every answer holds to, whatever the order. */
 static void expect_limits(const struct opc_answer *a, size_t legs) {
-    expect(is_documented(a->number), "a number that is not documented");
+    expect(is_known(a->number), "a number that is not documented");
     if (is_refusal(a->number)) {
         expect(a->class_ == 0 && a->shape == 0 && a->pairings == 0, "a refusal with a value");
         return;
@@ -60,23 +54,24 @@ static void expect_limits(const struct opc_answer *a, size_t legs) {
 }
 
 /*
- * Asks the entry and the wrapper, and sees that the lent bytes and those before them are kept. The
- * entry is asked twice with different garbage in its lent numbers, so one that it left unset shows.
+ * Asks the entry, and sees that the slices and the bytes before them are kept. It is asked twice
+ * with different garbage in its lent numbers, so one that it left unset shows.
  */
 static struct opc_answer answer(const struct made_order *made) {
     static struct lent_bytes symbols, counts;
+    static struct lent_terms terms;
     struct opc_order order = lend(made);
     uint64_t garbage = next_random();
     now = *made;
     order.symbols = lend_bytes(&symbols, made->symbols, made->symbols_len);
     order.counts = lend_bytes(&counts, made->counts, made->counts_len);
-    struct opc_answer raw = raw_answer(&order, &made->settings, &made->market, garbage);
-    struct opc_answer again = raw_answer(&order, &made->settings, &made->market, ~garbage);
-    struct opc_answer wrapped = opc_answer_order(&order, &made->settings, &made->market);
+    lend_terms(&terms, &made->settings, made->settings_len, &made->market, made->market_len);
+    struct opc_answer raw = raw_answer(&order, &terms, garbage);
+    struct opc_answer again = raw_answer(&order, &terms, ~garbage);
     expect(same_answer(&raw, &again), "a lent number is not set");
-    expect(same_answer(&raw, &wrapped), "the wrapper gives another answer");
     expect(are_kept(&symbols), "a symbol byte is not kept");
     expect(are_kept(&counts), "a count byte is not kept");
+    expect(terms_are_kept(&terms), "a setting or a market value is not kept");
     expect_limits(&raw, legs_of(made));
     return raw;
 }
@@ -321,6 +316,8 @@ static void test_limits(void) {
     expect_setting_limits(expect_order, &m, &m.settings);
     m = vertical(1000);
     expect_market_limits(expect_order, &m, &m.market);
+    m = vertical(1000);
+    expect_lengths(expect_order, &m, &m.settings_len, &m.market_len);
 }
 
 /* An order for each check, rejected with its switch at any value but 0. */
@@ -502,20 +499,20 @@ static void test_random_damaged(void) {
 
 /* Valid orders: never refused, and the same answer to the legs in another sequence. */
 static void test_random_valid(void) {
-    uint64_t seen[OPC_CHECK_TICK_DISTANCE + 1] = {0};
+    uint64_t seen = 0;
     for (size_t i = 0; i < RANDOM_CASES; i++) {
         struct made_order m = random_order(one_in(3) ? 1 : between(2, OPC_MOST_LEGS));
         struct opc_answer a = answer(&m);
         expect(!is_refusal(a.number), "a valid order is refused");
-        seen[a.number]++;
+        seen |= only(a.number);
         shuffle_legs(&m);
         struct opc_answer shuffled = answer(&m);
         expect(same_answer(&a, &shuffled), "the sequence of the legs matters");
     }
-    expect(seen[OPC_ACCEPTED] > 0, "no order was accepted");
-    for (uint64_t number = OPC_CHECK_PUT; number <= OPC_CHECK_TICK_DISTANCE; number++) {
-        expect(seen[number] > 0, "a check rejected none of the random orders");
-    }
+    uint64_t all = only(OPC_ACCEPTED) | only(OPC_CHECK_PUT) | only(OPC_CHECK_CALL) |
+                   only(OPC_CHECK_BUY_BUY) | only(OPC_CHECK_DEBIT_CREDIT) |
+                   only(OPC_CHECK_MAXIMUM_VALUE) | only(OPC_CHECK_TICK_DISTANCE);
+    expect(seen == all, "a number that no valid order was given, or one that none can get");
 }
 
 int main(void) {

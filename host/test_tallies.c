@@ -1,7 +1,6 @@
 /*
- * Holds the tallied check to the order check and to exact tallies, and its inline wrapper to the
- * raw entry. Exit status 1 and a message on the first failure, one line with the number of checks
- * otherwise.
+ * Holds the tallied check to the order check and to exact tallies. Exit status 1 and a message on
+ * the first failure, one line with the number of checks otherwise.
  */
 #define _DEFAULT_SOURCE /* for lent_bytes.h */
 #include "answers.h"
@@ -24,55 +23,51 @@ static void print_tried(void) {
             now.seen, now.refused, now.accepted, now.rejected);
 }
 
-static struct opc_answer raw_answer(const struct opc_order *o, const struct opc_settings *s,
-                                    const struct opc_market *m, struct opc_tally *t,
-                                    uint64_t garbage) {
+static struct opc_answer raw_answer(const struct opc_order *o, const struct lent_terms *terms,
+                                    struct opc_tally *t, uint64_t garbage) {
     struct opc_answer a = {garbage, garbage, garbage, garbage};
-    a.number = opc_check_order_tallied(EACH_OF_ORDER(o), EACH_OF_SETTINGS(s), EACH_OF_MARKET(m),
-                                       &a.class_, &a.shape, &a.pairings, &t->seen, &t->refused,
-                                       &t->accepted, &t->rejected);
+    a.number =
+        opc_check_order_tallied(EACH_OF_ORDER(o), EACH_OF_TERMS(terms), &a.class_, &a.shape,
+                                &a.pairings, &t->seen, &t->refused, &t->accepted, &t->rejected);
     return a;
 }
 
 /*
- * Asks the entry and the wrapper, and sees that the lent bytes and those before them are kept. The
- * entry is asked twice with different garbage in class, shape and pairings, so one that it left
- * unset shows; each time the tally is the same before.
+ * Asks the entry, and sees that the slices and the bytes before them are kept. It is asked twice
+ * with different garbage in class, shape and pairings, so one that it left unset shows; each time
+ * the tally is the same before.
  */
 static struct opc_answer answer(const struct made_order *made, struct opc_tally *tally) {
     static struct lent_bytes symbols, counts;
+    static struct lent_terms terms;
     struct opc_order order = lend(made);
     uint64_t garbage = next_random();
-    struct opc_tally second = *tally, third = *tally;
+    struct opc_tally second = *tally;
     now = *tally;
     order.symbols = lend_bytes(&symbols, made->symbols, made->symbols_len);
     order.counts = lend_bytes(&counts, made->counts, made->counts_len);
-    const struct opc_settings *settings = &made->settings;
-    struct opc_answer raw = raw_answer(&order, settings, &made->market, tally, garbage);
-    struct opc_answer again = raw_answer(&order, settings, &made->market, &second, ~garbage);
-    struct opc_answer wrapped = opc_answer_order_tallied(&order, settings, &made->market, &third);
+    lend_terms(&terms, &made->settings, made->settings_len, &made->market, made->market_len);
+    struct opc_answer raw = raw_answer(&order, &terms, tally, garbage);
+    struct opc_answer again = raw_answer(&order, &terms, &second, ~garbage);
     expect(same_answer(&raw, &again), "a lent number is not set");
-    expect(same_answer(&raw, &wrapped), "the wrapper gives another answer");
     expect(same_tally(tally, &second), "the same call leaves another tally");
-    expect(same_tally(tally, &third), "the wrapper leaves another tally");
     expect(are_kept(&symbols), "a symbol byte is not kept");
     expect(are_kept(&counts), "a count byte is not kept");
+    expect(terms_are_kept(&terms), "a setting or a market value is not kept");
     return raw;
 }
 
 /* The order check's own answer, and the tally one further. */
 static void expect_counted(const struct made_order *made, struct opc_tally *tally) {
-    struct opc_order order = lend(made);
-    struct opc_answer untallied = opc_answer_order(&order, &made->settings, &made->market);
+    struct opc_answer untallied;
+    untallied.number = opc_check_order(EACH_OF_ORDER(made), SLICES_OF(made), &untallied.class_,
+                                       &untallied.shape, &untallied.pairings);
     struct opc_tally expected = *tally;
+    uint64_t *const by_outcome[] = {[OPC_OUTCOME_ACCEPTED] = &expected.accepted,
+                                    [OPC_OUTCOME_REFUSED] = &expected.refused,
+                                    [OPC_OUTCOME_REJECTED] = &expected.rejected};
     expected.seen++;
-    if (untallied.number == OPC_ACCEPTED) {
-        expected.accepted++;
-    } else if (untallied.number >= OPC_CHECK_PUT) {
-        expected.rejected++;
-    } else {
-        expected.refused++;
-    }
+    ++*by_outcome[opc_outcome_of(untallied.number)];
     struct opc_answer a = answer(made, tally);
     expect(same_answer(&a, &untallied), "another answer than the order check's");
     expect(same_tally(tally, &expected), "another tally than expected");
@@ -100,7 +95,7 @@ static void two_calls(struct made_order *m, int64_t first, int64_t second, int64
     m->price = price;
 }
 
-/* An order that the order check gives this number, of 0, the refusals, and 20 to 25. */
+/* An order that the order check gives this number, of those it can give. */
 static struct made_order order_given(uint64_t number) {
     struct made_order m = random_order(OPC_MOST_LEGS);
     switch (number) {

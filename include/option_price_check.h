@@ -5,17 +5,20 @@
  * numbers in and out of a struct.
  *
  * What an entry promises: it takes any values and relies on no earlier test by its caller; it gives
- * one of the numbers of enum opc_number; it sets every lent number (every uint64_t pointer) on
- * every call, whatever was there before. A tally's four lent numbers alone are read too.
+ * one of the numbers of enum opc_number; it sets every lent number (every uint64_t pointer without
+ * const) on every call, whatever was there before. A tally's four lent numbers alone are read too.
+ * Slices (a const pointer and a length) are read, and never changed.
  *
- * What an entry asks of its caller: a pointer to bytes is valid for the length beside it, and is
- * NULL only with length 0; a pointer to a lent number is valid and never NULL; the lent numbers of
- * one call are distinct and share no memory with its bytes. So too an inline function, whose
- * pointers to structs are valid and never NULL.
+ * What an entry asks of its caller: a pointer to a slice or a buffer is valid for the length beside
+ * it, and is NULL only with length 0; a slice of numbers is aligned to 8 bytes, and its length is
+ * the number of numbers; a pointer to a lent number is valid and never NULL; the lent numbers of
+ * one call are distinct and share no memory with its slices or its buffer. So too an inline
+ * function, whose pointers to structs are valid and never NULL.
  */
 #ifndef OPTION_PRICE_CHECK_H
 #define OPTION_PRICE_CHECK_H
 
+#include <assert.h> /* static_assert, before C23 */
 #include <stddef.h>
 #include <stdint.h>
 
@@ -23,53 +26,71 @@
 extern "C" {
 #endif
 
-/*
- * The numbers that an entry can give. The words in front say whose doing a refusal is; 20 to 26 are
- * the exchange's own checks of an order or a quote that is not refused.
- */
-enum opc_number {
-    /* Not refused, and not rejected by a check. */
-    OPC_ACCEPTED = 0,
-    /* The host: the bytes to read are not 21, or for an order not 21 for each
-     * count, or the counts are not 8 bytes each. */
-    OPC_NOT_21_BYTES = 1,
-    /* The host: there are fewer than 21 bytes to write in. */
-    OPC_SHORT_BUFFER = 2,
-    /* The trading firm: an order without a leg, or with more than 16. */
-    OPC_BAD_LEG_COUNT = 3,
-    /* The trading firm: a symbol, or the parts of one, outside the layout. */
-    OPC_BAD_SYMBOL = 4,
-    /* The trading firm: a leg's count is not 1 to 10000 in size. */
-    OPC_BAD_COUNT = 5,
-    /* The trading firm: two legs of one series (the same symbol). */
-    OPC_SERIES_TWICE = 6,
-    /* The trading firm: the legs' roots differ. */
-    OPC_ROOTS_DIFFER = 7,
-    /* The trading firm: the price is too large, or has the wrong sign for an order of one leg. */
-    OPC_BAD_PRICE = 8,
-    /* The exchange's settings: one of them is outside its limits. */
-    OPC_BAD_SETTING = 9,
-    /* The feed: the phase or a market value is outside its limits. */
-    OPC_BAD_MARKET = 10,
-    /* The trading firm: a quote's bid or offer is outside its limits, or the bid is not below. */
-    OPC_BAD_QUOTE = 11,
-    /* The host: the tally has counted its last check, or its numbers do not add up. */
-    OPC_BAD_TALLY = 12,
-    /* Rejected by the put check. */
-    OPC_CHECK_PUT = 20,
-    /* Rejected by the call check. */
-    OPC_CHECK_CALL = 21,
-    /* Rejected by the buy-buy/sell-sell check. */
-    OPC_CHECK_BUY_BUY = 22,
-    /* Rejected by the debit/credit check. */
-    OPC_CHECK_DEBIT_CREDIT = 23,
-    /* Rejected by the maximum value check. */
-    OPC_CHECK_MAXIMUM_VALUE = 24,
-    /* Rejected by the tick distance check. */
-    OPC_CHECK_TICK_DISTANCE = 25,
-    /* A quote, rejected by the quote inversion check. */
-    OPC_CHECK_QUOTE_INVERSION = 26
+/* What a number says of an order, a quote or a symbol. */
+enum opc_outcome {
+    OPC_OUTCOME_ACCEPTED = 0,
+    OPC_OUTCOME_REFUSED = 1, /* malformed; all other numbers but a tally's are 0 */
+    OPC_OUTCOME_REJECTED = 2 /* by a check of the exchange */
 };
+
+/*
+ * The numbers that an entry can give, a row each: name, number, outcome, author (who has to change
+ * something), then a word for tables and the meaning. All that goes by the number is made from it:
+ * enum opc_number and opc_outcome_of here, and whatever a host makes with a ROW of its own.
+ */
+#define OPC_NUMBERS(ROW)                                                                           \
+    ROW(OPC_ACCEPTED, 0, ACCEPTED, "nobody", "accepted", "neither refused nor rejected")           \
+    ROW(OPC_NOT_21_BYTES, 1, REFUSED, "host", "not 21 bytes",                                      \
+        "the symbols' bytes are not 21 each")                                                      \
+    ROW(OPC_SHORT_BUFFER, 2, REFUSED, "host", "short buffer",                                      \
+        "there are fewer than 21 bytes to write in")                                               \
+    ROW(OPC_BAD_LEG_COUNT, 3, REFUSED, "trading firm", "number of legs",                           \
+        "it has no leg, or more than 16")                                                          \
+    ROW(OPC_BAD_SYMBOL, 4, REFUSED, "trading firm", "outside layout",                              \
+        "a symbol is outside the layout")                                                          \
+    ROW(OPC_BAD_COUNT, 5, REFUSED, "trading firm", "count", "a count is outside its limits")       \
+    ROW(OPC_SERIES_TWICE, 6, REFUSED, "trading firm", "series twice", "a series is there twice")   \
+    ROW(OPC_ROOTS_DIFFER, 7, REFUSED, "trading firm", "roots differ", "the roots differ")          \
+    ROW(OPC_BAD_PRICE, 8, REFUSED, "trading firm", "price",                                        \
+        "the price is too large, or has the wrong sign for one leg")                               \
+    ROW(OPC_BAD_SETTING, 9, REFUSED, "exchange's settings", "setting",                             \
+        "one is outside its limits")                                                               \
+    ROW(OPC_BAD_MARKET, 10, REFUSED, "feed", "market value",                                       \
+        "the phase or a market value is outside its limits")                                       \
+    ROW(OPC_BAD_QUOTE, 11, REFUSED, "trading firm", "bid and offer",                               \
+        "bid or offer is outside its limits, or the bid is not below")                             \
+    ROW(OPC_BAD_TALLY, 12, REFUSED, "host", "tally", "the tally is full, or does not add up")      \
+    ROW(OPC_CHECK_PUT, 20, REJECTED, "trading firm", "put check",                                  \
+        "the put check: too high for a put")                                                       \
+    ROW(OPC_CHECK_CALL, 21, REJECTED, "trading firm", "call check",                                \
+        "the call check: too high for a call")                                                     \
+    ROW(OPC_CHECK_BUY_BUY, 22, REJECTED, "trading firm", "buy-buy/sell-sell",                      \
+        "the buy-buy/sell-sell check: too low for so many contracts")                              \
+    ROW(OPC_CHECK_DEBIT_CREDIT, 23, REJECTED, "trading firm", "debit/credit",                      \
+        "the debit/credit check: the price's sign is not the class's")                             \
+    ROW(OPC_CHECK_MAXIMUM_VALUE, 24, REJECTED, "trading firm", "maximum value",                    \
+        "the maximum value check: the price is above what the shape can be worth")                 \
+    ROW(OPC_CHECK_TICK_DISTANCE, 25, REJECTED, "trading firm", "tick distance",                    \
+        "the tick distance check: the price is too far from its reference")                        \
+    ROW(OPC_CHECK_QUOTE_INVERSION, 26, REJECTED, "trading firm", "quote inversion",                \
+        "the quote inversion check: the bid or the offer inverts the market")
+
+#define OPC_ENUMERATOR(name, number, outcome, author, word, meaning) name = number,
+enum opc_number { OPC_NUMBERS(OPC_ENUMERATOR) };
+#undef OPC_ENUMERATOR
+
+/* A number that no row has is no acceptance: it counts as refused. */
+static inline enum opc_outcome opc_outcome_of(uint64_t number) {
+    switch (number) {
+#define OPC_CASE(name, number, outcome, author, word, meaning)                                     \
+    case name:                                                                                     \
+        return OPC_OUTCOME_##outcome;
+        OPC_NUMBERS(OPC_CASE)
+#undef OPC_CASE
+    default:
+        return OPC_OUTCOME_REFUSED;
+    }
+}
 
 /*
  * An option symbol is 21 bytes:
@@ -181,6 +202,13 @@ struct opc_order {
 };
 
 /*
+ * Settings and market go to an entry as a slice of numbers each, which are the fields of the two
+ * structs below in their sequence. These are the slices' lengths.
+ */
+#define OPC_SETTINGS_COUNT 20
+#define OPC_MARKET_COUNT 9
+
+/*
  * The exchange's settings for a class of options. Money is in mills, a distance in ticks. A switch
  * or a flag: 0 is no, any other value yes.
  */
@@ -206,6 +234,9 @@ struct opc_settings {
     uint64_t adjusted;        /* flag: an adjusted class, which check 21 leaves out */
     uint64_t european_index;  /* flag: European index style, where expiries are not paired */
 };
+
+/* Numbers alone: a pointer to the struct is one to the slice. So too the market. */
+static_assert(sizeof(struct opc_settings) == OPC_SETTINGS_COUNT * sizeof(uint64_t), "the slice");
 
 /* The settings of document 01's examples. In C++ such an initializer needs C++20. */
 #define OPC_EXAMPLE_SETTINGS                                                                       \
@@ -236,6 +267,8 @@ struct opc_market {
     uint64_t own_offer;      /* the exchange's own best offer */
     uint64_t previous_close;
 };
+
+static_assert(sizeof(struct opc_market) == OPC_MARKET_COUNT * sizeof(uint64_t), "the slice");
 
 /* An open market with every value missing. In C++ such an initializer needs C++20. */
 #define OPC_EMPTY_MARKET                                                                           \
@@ -268,9 +301,11 @@ struct opc_answer {
  *     OPC_BAD_PRICE            the price is above 1000000000000 in size, or one leg is bought at a
  *                              price not above 0, or one leg is sold at a price not below 0;
  *   of the exchange's settings,
- *     OPC_BAD_SETTING          one is outside its limits, used or not, switched on or off;
+ *     OPC_BAD_SETTING          settings_len is not OPC_SETTINGS_COUNT, or a setting is outside its
+ *                              limits, used or not, switched on or off;
  *   of the feed,
- *     OPC_BAD_MARKET           the phase or a value is outside its limits, used or not;
+ *     OPC_BAD_MARKET           market_len is not OPC_MARKET_COUNT, or the phase or a value is
+ *                              outside its limits, used or not;
  *   the order is valid, and rejected by a check that is switched on,
  *     OPC_CHECK_PUT            one leg, a put bought at its strike or above; no market order in
  *                              the opening process;
@@ -301,40 +336,25 @@ struct opc_answer {
  * reference's band, times the tick at the reference.
  *
  * *class_, *shape and *pairings are set to the order's class, shape and number of pairings where it
- * is accepted or rejected by a check, and to 0 where it is refused (1 to 10). The sequence of the
- * legs does not matter to any of the four.
+ * is accepted or rejected by a check, and to 0 where it is refused. The sequence of the legs does
+ * not matter to any of the four.
  */
-uint64_t opc_check_order(
-    const uint8_t *symbols, size_t symbols_len, const uint8_t *counts, size_t counts_len,
-    int64_t price, uint64_t kind, uint64_t stop, uint64_t manual, uint64_t opening,
-    /* settings */
-    uint64_t check_20, uint64_t check_21, uint64_t check_22, uint64_t check_23, uint64_t check_24,
-    uint64_t check_25, uint64_t check_26, uint64_t tick_below_3000, uint64_t tick_from_3000,
-    uint64_t net_increment, uint64_t atd_below_1000, uint64_t atd_to_2999, uint64_t atd_to_9999,
-    uint64_t atd_from_10000, uint64_t percentage, uint64_t preset_minimum, uint64_t preset_maximum,
-    uint64_t set_ticks, uint64_t adjusted, uint64_t european_index,
-    /* market */
-    uint64_t phase, uint64_t open_elsewhere, uint64_t extended_hours, uint64_t underlying,
-    uint64_t nbb, uint64_t nbo, uint64_t own_bid, uint64_t own_offer, uint64_t previous_close,
-    /* answer */
-    uint64_t *class_, uint64_t *shape, uint64_t *pairings);
+uint64_t opc_check_order(const uint8_t *symbols, size_t symbols_len, const uint8_t *counts,
+                         size_t counts_len, int64_t price, uint64_t kind, uint64_t stop,
+                         uint64_t manual, uint64_t opening, const uint64_t *settings,
+                         size_t settings_len, const uint64_t *market, size_t market_len,
+                         uint64_t *class_, uint64_t *shape, uint64_t *pairings);
 
 /* opc_check_order, with order, settings, market and answer in structs. */
 static inline struct opc_answer opc_answer_order(const struct opc_order *order,
                                                  const struct opc_settings *settings,
                                                  const struct opc_market *market) {
-    const struct opc_settings *s = settings;
-    const struct opc_market *m = market;
     struct opc_answer answer;
-    answer.number = opc_check_order(
-        order->symbols, order->symbols_len, order->counts, order->counts_len, order->price,
-        order->kind, order->stop, order->manual, order->opening, s->check_20, s->check_21,
-        s->check_22, s->check_23, s->check_24, s->check_25, s->check_26, s->tick_below_3000,
-        s->tick_from_3000, s->net_increment, s->atd_below_1000, s->atd_to_2999, s->atd_to_9999,
-        s->atd_from_10000, s->percentage, s->preset_minimum, s->preset_maximum, s->set_ticks,
-        s->adjusted, s->european_index, m->phase, m->open_elsewhere, m->extended_hours,
-        m->underlying, m->nbb, m->nbo, m->own_bid, m->own_offer, m->previous_close, &answer.class_,
-        &answer.shape, &answer.pairings);
+    answer.number =
+        opc_check_order(order->symbols, order->symbols_len, order->counts, order->counts_len,
+                        order->price, order->kind, order->stop, order->manual, order->opening,
+                        (const uint64_t *)settings, OPC_SETTINGS_COUNT, (const uint64_t *)market,
+                        OPC_MARKET_COUNT, &answer.class_, &answer.shape, &answer.pairings);
     return answer;
 }
 
@@ -346,10 +366,10 @@ static inline struct opc_answer opc_answer_order(const struct opc_order *order,
  * the tally and lends it to each check; it begins fresh, with four zeros.
  */
 struct opc_tally {
-    uint64_t seen;     /* at most OPC_MOST_TALLIED, and always the sum of the other three */
-    uint64_t refused;  /* given 1 to 10; a check given 12 is not seen at all */
-    uint64_t accepted; /* given 0 */
-    uint64_t rejected; /* given 20 to 26 */
+    uint64_t seen;    /* at most OPC_MOST_TALLIED, and always the sum of the other three */
+    uint64_t refused; /* a check given OPC_BAD_TALLY is not even seen */
+    uint64_t accepted;
+    uint64_t rejected;
 };
 
 /* In C++ such an initializer needs C++20. */
@@ -366,42 +386,27 @@ struct opc_tally {
  *   otherwise      the number that opc_check_order gives.
  *
  * After OPC_BAD_TALLY, *class_, *shape and *pairings are 0, and the tally is as it was. Otherwise
- * they are as opc_check_order sets them; *seen is one more than it was, and so is *accepted (after
- * 0), *rejected (after 20 to 26) or *refused (after 1 to 10).
+ * they are as opc_check_order sets them; *seen is one more than it was, and so is *accepted,
+ * *rejected or *refused, as opc_outcome_of says of the number.
  */
-uint64_t opc_check_order_tallied(
-    const uint8_t *symbols, size_t symbols_len, const uint8_t *counts, size_t counts_len,
-    int64_t price, uint64_t kind, uint64_t stop, uint64_t manual, uint64_t opening,
-    /* settings */
-    uint64_t check_20, uint64_t check_21, uint64_t check_22, uint64_t check_23, uint64_t check_24,
-    uint64_t check_25, uint64_t check_26, uint64_t tick_below_3000, uint64_t tick_from_3000,
-    uint64_t net_increment, uint64_t atd_below_1000, uint64_t atd_to_2999, uint64_t atd_to_9999,
-    uint64_t atd_from_10000, uint64_t percentage, uint64_t preset_minimum, uint64_t preset_maximum,
-    uint64_t set_ticks, uint64_t adjusted, uint64_t european_index,
-    /* market */
-    uint64_t phase, uint64_t open_elsewhere, uint64_t extended_hours, uint64_t underlying,
-    uint64_t nbb, uint64_t nbo, uint64_t own_bid, uint64_t own_offer, uint64_t previous_close,
-    /* answer */
-    uint64_t *class_, uint64_t *shape, uint64_t *pairings,
-    /* tally */
-    uint64_t *seen, uint64_t *refused, uint64_t *accepted, uint64_t *rejected);
+uint64_t opc_check_order_tallied(const uint8_t *symbols, size_t symbols_len, const uint8_t *counts,
+                                 size_t counts_len, int64_t price, uint64_t kind, uint64_t stop,
+                                 uint64_t manual, uint64_t opening, const uint64_t *settings,
+                                 size_t settings_len, const uint64_t *market, size_t market_len,
+                                 uint64_t *class_, uint64_t *shape, uint64_t *pairings,
+                                 uint64_t *seen, uint64_t *refused, uint64_t *accepted,
+                                 uint64_t *rejected);
 
 /* opc_check_order_tallied, with order, settings, market, tally and answer in structs. */
 static inline struct opc_answer opc_answer_order_tallied(const struct opc_order *order,
                                                          const struct opc_settings *settings,
                                                          const struct opc_market *market,
                                                          struct opc_tally *tally) {
-    const struct opc_settings *s = settings;
-    const struct opc_market *m = market;
     struct opc_answer answer;
     answer.number = opc_check_order_tallied(
         order->symbols, order->symbols_len, order->counts, order->counts_len, order->price,
-        order->kind, order->stop, order->manual, order->opening, s->check_20, s->check_21,
-        s->check_22, s->check_23, s->check_24, s->check_25, s->check_26, s->tick_below_3000,
-        s->tick_from_3000, s->net_increment, s->atd_below_1000, s->atd_to_2999, s->atd_to_9999,
-        s->atd_from_10000, s->percentage, s->preset_minimum, s->preset_maximum, s->set_ticks,
-        s->adjusted, s->european_index, m->phase, m->open_elsewhere, m->extended_hours,
-        m->underlying, m->nbb, m->nbo, m->own_bid, m->own_offer, m->previous_close, &answer.class_,
+        order->kind, order->stop, order->manual, order->opening, (const uint64_t *)settings,
+        OPC_SETTINGS_COUNT, (const uint64_t *)market, OPC_MARKET_COUNT, &answer.class_,
         &answer.shape, &answer.pairings, &tally->seen, &tally->refused, &tally->accepted,
         &tally->rejected);
     return answer;
@@ -432,9 +437,11 @@ struct opc_quote_answer {
  *   of the trading firm,
  *     OPC_BAD_SYMBOL             the symbol is outside the layout;
  *   of the exchange's settings,
- *     OPC_BAD_SETTING            one is outside its limits, used or not, switched on or off;
+ *     OPC_BAD_SETTING            settings_len is not OPC_SETTINGS_COUNT, or a setting is outside
+ *                                its limits, used or not, switched on or off;
  *   of the feed,
- *     OPC_BAD_MARKET             the phase or a value is outside its limits, used or not;
+ *     OPC_BAD_MARKET             market_len is not OPC_MARKET_COUNT, or the phase or a value is
+ *                                outside its limits, used or not;
  *   of the trading firm,
  *     OPC_BAD_QUOTE              bid or offer is not 1 to 1000000000, or the bid is not below the
  *                                offer;
@@ -453,37 +460,20 @@ struct opc_quote_answer {
  * is held against is missing, and neither side in a halt, or before the opening unless the series
  * is open elsewhere.
  *
- * *cancel is set to 1 where a check (20, 21 or 26) rejects a quote with one resting, else to 0.
+ * *cancel is set to 1 where a check rejects a quote with one resting, else to 0.
  */
-uint64_t opc_check_quote(
-    const uint8_t *symbol, size_t symbol_len, uint64_t bid, uint64_t offer, uint64_t resting,
-    /* settings */
-    uint64_t check_20, uint64_t check_21, uint64_t check_22, uint64_t check_23, uint64_t check_24,
-    uint64_t check_25, uint64_t check_26, uint64_t tick_below_3000, uint64_t tick_from_3000,
-    uint64_t net_increment, uint64_t atd_below_1000, uint64_t atd_to_2999, uint64_t atd_to_9999,
-    uint64_t atd_from_10000, uint64_t percentage, uint64_t preset_minimum, uint64_t preset_maximum,
-    uint64_t set_ticks, uint64_t adjusted, uint64_t european_index,
-    /* market */
-    uint64_t phase, uint64_t open_elsewhere, uint64_t extended_hours, uint64_t underlying,
-    uint64_t nbb, uint64_t nbo, uint64_t own_bid, uint64_t own_offer, uint64_t previous_close,
-    /* answer */
-    uint64_t *cancel);
+uint64_t opc_check_quote(const uint8_t *symbol, size_t symbol_len, uint64_t bid, uint64_t offer,
+                         uint64_t resting, const uint64_t *settings, size_t settings_len,
+                         const uint64_t *market, size_t market_len, uint64_t *cancel);
 
 /* opc_check_quote, with quote, settings, market and answer in structs. */
 static inline struct opc_quote_answer opc_answer_quote(const struct opc_quote *quote,
                                                        const struct opc_settings *settings,
                                                        const struct opc_market *market) {
-    const struct opc_settings *s = settings;
-    const struct opc_market *m = market;
     struct opc_quote_answer answer;
-    answer.number = opc_check_quote(
-        quote->symbol, quote->symbol_len, quote->bid, quote->offer, quote->resting, s->check_20,
-        s->check_21, s->check_22, s->check_23, s->check_24, s->check_25, s->check_26,
-        s->tick_below_3000, s->tick_from_3000, s->net_increment, s->atd_below_1000, s->atd_to_2999,
-        s->atd_to_9999, s->atd_from_10000, s->percentage, s->preset_minimum, s->preset_maximum,
-        s->set_ticks, s->adjusted, s->european_index, m->phase, m->open_elsewhere,
-        m->extended_hours, m->underlying, m->nbb, m->nbo, m->own_bid, m->own_offer,
-        m->previous_close, &answer.cancel);
+    answer.number = opc_check_quote(quote->symbol, quote->symbol_len, quote->bid, quote->offer,
+                                    quote->resting, (const uint64_t *)settings, OPC_SETTINGS_COUNT,
+                                    (const uint64_t *)market, OPC_MARKET_COUNT, &answer.cancel);
     return answer;
 }
 
