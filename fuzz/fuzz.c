@@ -25,6 +25,7 @@ static const char *const entry_names[ENTRIES] = {"opc_read_symbol", "opc_write_s
 #define NUMBERS 64
 #define PAIRINGS 16
 
+/* Each number has its place among so many. */
 #define ROW(name, number, outcome, author, word, meaning) static_assert(number < NUMBERS, #name);
 OPC_NUMBERS(ROW)
 #undef ROW

@@ -1,10 +1,11 @@
 //! The proved library beside a second implementation of the same rules, in the same types, so that
 //! a test can put one question to both.
 //!
-//! `unit` is the library. The second implementation is `osi` for symbols, `order`, with `pairing`,
-//! `shape`, `class` and `checks` below it, for orders, `tally` for tallied ones and `quote_check` for
-//! quotes. `examples` are those of the papers, `generate` and `limits` make cases up, and `run`
-//! puts them to both and counts.
+//! `unit` is the library. `numbers` has every number with its kind, `slices` the names of settings
+//! and market. The second implementation is `osi` for symbols, `order`, with `pairing`, `shape`,
+//! `class` and `checks` below it, for orders, `tally` for tallied ones and `quote_check` for quotes.
+//! `examples` are those of the papers, `generate` and `limits` make cases up, and `run` puts them to
+//! both and counts.
 #![deny(unsafe_code)]
 
 pub mod arrival;

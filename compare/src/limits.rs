@@ -104,12 +104,15 @@ pub fn wrong_lengths(right: usize) -> [usize; 4] {
 /// Right lengths of settings and market, and every wrong one up to twice the right one and a byte's
 /// range above it; with the number of a case that gets some number with right ones.
 pub fn every_length(number: u64) -> Vec<(usize, usize, u64)> {
-    let wrong = |right: usize| (0..right).chain(right + 1..=2 * right).chain([right + 256]);
-    let wrong = || (wrong(setting::LENGTH), wrong(market::LENGTH));
-    let right = [(setting::LENGTH, market::LENGTH)];
-    let settings = wrong().0.map(|length| (length, market::LENGTH));
-    let market = wrong().1.map(|length| (setting::LENGTH, length));
-    let both = wrong().0.zip(wrong().1);
+    let right = [setting::LENGTH, market::LENGTH];
+    let [settings, market] = right.map(|right| {
+        let wrong = (0..right).chain(right + 1..=2 * right);
+        wrong.chain([right + 256]).collect::<Vec<usize>>()
+    });
+    let mut lengths = vec![(setting::LENGTH, market::LENGTH)];
+    lengths.extend(settings.iter().map(|&length| (length, market::LENGTH)));
+    lengths.extend(market.iter().map(|&length| (setting::LENGTH, length)));
+    lengths.extend(settings.into_iter().zip(market));
     let with_number = |(settings, market)| {
         let numbers = [
             (number, number != ACCEPTED),
@@ -118,8 +121,7 @@ pub fn every_length(number: u64) -> Vec<(usize, usize, u64)> {
         ];
         (settings, market, lowest(&numbers).unwrap_or(ACCEPTED))
     };
-    let lengths = right.into_iter().chain(settings).chain(market).chain(both);
-    lengths.map(with_number).collect()
+    lengths.into_iter().map(with_number).collect()
 }
 
 /// Where a number stands that is 0 for no, and anything else for yes.
