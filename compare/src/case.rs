@@ -61,7 +61,7 @@ impl Case for Arrival {
 
     /// Classes, shapes and pairings are those of valid orders.
     fn count(&self, answer: &Answer, seen: &mut Seen) {
-        seen.lengths(&self.settings, &self.market);
+        seen.count_lengths(&self.settings, &self.market);
         *seen.numbers.entry(answer.number).or_default() += 1;
         if kind(answer.number) != Kind::Refused {
             *seen.classes.entry(answer.class).or_default() += 1;
@@ -116,7 +116,7 @@ impl Case for Quote {
     }
 
     fn count(&self, answer: &QuoteAnswer, seen: &mut Seen) {
-        seen.lengths(&self.settings, &self.market);
+        seen.count_lengths(&self.settings, &self.market);
         *seen.numbers.entry(answer.number).or_default() += 1;
         *seen.cancels.entry(answer.cancel).or_default() += 1;
     }

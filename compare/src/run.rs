@@ -23,17 +23,19 @@ pub struct Seen {
     pub shapes: Counts,
     pub pairings: Counts,
     pub cancels: Counts,
-    pub settings_lengths: Counts,
-    pub market_lengths: Counts,
+    /// Wrong lengths alone.
+    pub settings: Counts,
+    pub market: Counts,
 }
 
 impl Seen {
-    pub fn lengths(&mut self, settings: &[u64], market: &[u64]) {
-        *self
-            .settings_lengths
-            .entry(settings.len() as u64)
-            .or_default() += 1;
-        *self.market_lengths.entry(market.len() as u64).or_default() += 1;
+    pub fn count_lengths(&mut self, settings: &[u64], market: &[u64]) {
+        if settings.len() != setting::LENGTH {
+            *self.settings.entry(settings.len() as u64).or_default() += 1;
+        }
+        if market.len() != market::LENGTH {
+            *self.market.entry(market.len() as u64).or_default() += 1;
+        }
     }
 }
 
@@ -151,8 +153,8 @@ to run it again, in compare/:
         let [settings, market] = [setting::LENGTH, market::LENGTH]
             .map(|right| wrong_lengths(right).map(|length| length as u64));
         let seen = &self.seen;
-        self.given_each("settings", &seen.settings_lengths, settings, least);
-        self.given_each("market", &seen.market_lengths, market, least);
+        self.given_each("settings", &seen.settings, settings, least);
+        self.given_each("market", &seen.market, market, least);
     }
 
     fn given_each(

@@ -87,8 +87,8 @@ fn alphabet(counts: &[i64]) -> Vec<RawLeg> {
 
 /// Puts a list of legs to both, European and not.
 fn compare(run: &mut Run, legs: &[RawLeg]) {
+    let mut arrival = Arrival::limit(legs, -1_000);
     for european in [0, 1] {
-        let mut arrival = Arrival::limit(legs, -1_000);
         arrival.settings[EUROPEAN] = european;
         let expected: Answer = order::check_by_contracts(&arrival);
         run.expect(&arrival, expected, "contract by contract");
