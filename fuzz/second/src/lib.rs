@@ -3,6 +3,7 @@
 //!
 //! What every function asks: a pointer to a slice is valid for the length beside it unless that is 0.
 //! The answers, the parts and the tally of `compare` are laid out as the C structs are.
+#![allow(clippy::missing_safety_doc)] // it is said above, once
 
 mod seeds;
 
@@ -50,8 +51,6 @@ pub struct Terms {
     market_len: usize,
 }
 
-/// # Safety
-/// As above.
 unsafe fn lent<T: Clone>(pointer: *const T, length: usize) -> Vec<T> {
     match length {
         0 => Vec::new(),
@@ -84,8 +83,6 @@ unsafe fn quote(quote: &QuoteOf, terms: &Terms) -> Quote {
     }
 }
 
-/// # Safety
-/// As above.
 #[no_mangle]
 pub unsafe extern "C" fn second_read_symbol(
     symbol: *const u8,
@@ -97,8 +94,7 @@ pub unsafe extern "C" fn second_read_symbol(
     read.number
 }
 
-/// # Safety
-/// As above; `out` is valid for writes.
+/// `out` is valid for writes.
 #[no_mangle]
 pub unsafe extern "C" fn second_write_symbol(
     parts: &Parts,
@@ -114,15 +110,11 @@ pub unsafe extern "C" fn second_write_symbol(
     written.length
 }
 
-/// # Safety
-/// As above.
 #[no_mangle]
 pub unsafe extern "C" fn second_check_order(order: &Order, terms: &Terms) -> Answer {
     order::check(&arrival(order, terms))
 }
 
-/// # Safety
-/// As above.
 #[no_mangle]
 pub unsafe extern "C" fn second_check_order_tallied(
     order: &Order,
@@ -137,8 +129,6 @@ pub unsafe extern "C" fn second_check_order_tallied(
     tallied.answer
 }
 
-/// # Safety
-/// As above.
 #[no_mangle]
 pub unsafe extern "C" fn second_check_quote(quote_of: &QuoteOf, terms: &Terms) -> QuoteAnswer {
     quote_check::check(&quote(quote_of, terms))
@@ -149,9 +139,6 @@ fn print<C: Case>(case: &C) {
 }
 
 /// Prints an order, tallied where a tally is given, and the line that replays it.
-///
-/// # Safety
-/// As above.
 #[no_mangle]
 pub unsafe extern "C" fn second_print_order(order: &Order, terms: &Terms, tally: Option<&Tally>) {
     let arrival = arrival(order, terms);
@@ -161,8 +148,6 @@ pub unsafe extern "C" fn second_print_order(order: &Order, terms: &Terms, tally:
     }
 }
 
-/// # Safety
-/// As above.
 #[no_mangle]
 pub unsafe extern "C" fn second_print_quote(quote_of: &QuoteOf, terms: &Terms) {
     print(&quote(quote_of, terms));
