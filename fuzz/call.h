@@ -15,8 +15,9 @@ enum entry { READ_SYMBOL, WRITE_SYMBOL, CHECK_ORDER, CHECK_ORDER_TALLIED, CHECK_
 /* The longest slice for one symbol, and the longest buffer to write in. */
 #define MOST_BYTES_OF_ONE 48
 
-#define SETTINGS 20
-#define MARKET_VALUES 9
+/* More than twice as many as there should be. */
+#define MOST_SETTINGS 48
+#define MOST_MARKET_VALUES 24
 
 struct call {
     enum entry entry;
@@ -37,13 +38,12 @@ struct call {
     uint64_t bid;
     uint64_t offer;
     uint64_t resting;
-    struct opc_settings settings;
-    struct opc_market market;
+    uint64_t settings[MOST_SETTINGS];
+    size_t settings_len;
+    uint64_t market[MOST_MARKET_VALUES];
+    size_t market_len;
     struct opc_tally tally;
 };
-
-_Static_assert(sizeof(struct opc_settings) == SETTINGS * sizeof(uint64_t), "numbers alone");
-_Static_assert(sizeof(struct opc_market) == MARKET_VALUES * sizeof(uint64_t), "numbers alone");
 
 static inline bool is_order(const struct call *call) {
     return call->entry == CHECK_ORDER || call->entry == CHECK_ORDER_TALLIED;

@@ -22,8 +22,13 @@ static const char *const entry_names[ENTRIES] = {"opc_read_symbol", "opc_write_s
 
 /* ---- Counting. ---- */
 
-#define NUMBERS 27
+#define NUMBERS 64
 #define PAIRINGS 16
+
+/* Each number has its place among so many. */
+#define ROW(name, number, outcome, author, word, meaning) static_assert(number < NUMBERS, #name);
+OPC_NUMBERS(ROW)
+#undef ROW
 
 /* One for each question; a question is put in several calls. */
 static uint64_t answers[ENTRIES][NUMBERS];
@@ -59,10 +64,12 @@ static void count_answer(const struct call *call, uint64_t number) {
     }
 }
 
+static bool is_valid(uint64_t number) { return opc_outcome_of(number) != OPC_OUTCOME_REFUSED; }
+
 static void count_order(const struct call *call, const struct opc_answer *answer) {
     count_answer(call, answer->number);
-    bool is_valid = answer->number == 0 || answer->number >= 20;
-    if (is_valid && answer->class_ < 3 && answer->shape < 5 && answer->pairings < PAIRINGS) {
+    if (is_valid(answer->number) && answer->class_ < 3 && answer->shape < 5 &&
+        answer->pairings < PAIRINGS) {
         classes[answer->class_]++;
         shapes[answer->shape]++;
         pairings[answer->pairings]++;
@@ -92,6 +99,13 @@ static struct opc_quote quote_of(const struct call *call, const uint8_t *symbol)
                               .resting = call->resting};
 }
 
+static struct second_terms terms_of(const struct call *call) {
+    return (struct second_terms){.settings = call->settings,
+                                 .settings_len = call->settings_len,
+                                 .market = call->market,
+                                 .market_len = call->market_len};
+}
+
 static void print_symbol_call(const struct call *call) {
     const struct opc_symbol_parts *p = &call->parts;
     if (call->entry == READ_SYMBOL) {
@@ -112,15 +126,16 @@ static void print_symbol_call(const struct call *call) {
 static void print_call(const struct call *call) {
     struct opc_order order = order_of(call, call->symbols, call->counts);
     struct opc_quote quote = quote_of(call, call->symbols);
+    struct second_terms terms = terms_of(call);
     switch (call->entry) {
     case CHECK_ORDER:
-        second_print_order(&order, &call->settings, &call->market, NULL);
+        second_print_order(&order, &terms, NULL);
         break;
     case CHECK_ORDER_TALLIED:
-        second_print_order(&order, &call->settings, &call->market, &call->tally);
+        second_print_order(&order, &terms, &call->tally);
         break;
     case CHECK_QUOTE:
-        second_print_quote(&quote, &call->settings, &call->market);
+        second_print_quote(&quote, &terms);
         break;
     default:
         print_symbol_call(call);
@@ -147,7 +162,7 @@ static void print_numbers(const char *whose, const uint64_t *numbers, size_t n) 
 /* Two structs that hold numbers alone: what was given, and what was expected. */
 static void expect_equal(const struct call *call, const char *what, const void *given,
                          const void *expected, size_t size) {
-    uint64_t numbers[2][SETTINGS];
+    uint64_t numbers[2][MOST_LENT_NUMBERS];
     if (memcmp(given, expected, size) != 0) {
         memcpy(numbers[0], given, size);
         memcpy(numbers[1], expected, size);
@@ -161,6 +176,8 @@ static void expect_equal(const struct call *call, const char *what, const void *
 
 static struct lent lent_symbols;
 static struct lent lent_counts;
+static struct lent lent_settings;
+static struct lent lent_market;
 
 /* What lent numbers hold before a call: two values, so that one which is not set shows. */
 static const uint64_t unset[2] = {UINT64_C(0xdeadbeefdeadbeef), UINT64_C(0x0123456789abcdef)};
@@ -176,9 +193,21 @@ static const uint8_t *lend_counts(const struct call *call, bool last) {
     return lend(&lent_counts, call->counts, call->counts_len, last, is_null(call));
 }
 
+static const void *lend_settings(const struct call *call, bool last) {
+    size_t size = call->settings_len * sizeof call->settings[0];
+    return lend(&lent_settings, call->settings, size, last, is_null(call));
+}
+
+static const void *lend_market(const struct call *call, bool last) {
+    size_t size = call->market_len * sizeof call->market[0];
+    return lend(&lent_market, call->market, size, last, is_null(call));
+}
+
+/* Of every slice, so of those that this call was not lent too. */
 static void expect_kept(const struct call *call) {
-    bool kept = is_kept(&lent_symbols) && (!is_order(call) || is_kept(&lent_counts));
-    expect(kept, call, "lent bytes, or those around them, were changed");
+    bool kept = is_kept(&lent_symbols) && is_kept(&lent_counts) && is_kept(&lent_settings) &&
+                is_kept(&lent_market);
+    expect(kept, call, "a lent slice, or what is around it, was changed");
 }
 
 static void expect_guards(const struct call *call, const struct lent_numbers *lent) {
@@ -272,18 +301,17 @@ static void try_write(const struct call *call) {
 
 /* ---- Orders. ---- */
 
-#define SETTINGS_OF(s)                                                                             \
-    (s).check_20, (s).check_21, (s).check_22, (s).check_23, (s).check_24, (s).check_25,            \
-        (s).check_26, (s).tick_below_3000, (s).tick_from_3000, (s).net_increment,                  \
-        (s).atd_below_1000, (s).atd_to_2999, (s).atd_to_9999, (s).atd_from_10000, (s).percentage,  \
-        (s).preset_minimum, (s).preset_maximum, (s).set_ticks, (s).adjusted, (s).european_index
-#define MARKET_OF(m)                                                                               \
-    (m).phase, (m).open_elsewhere, (m).extended_hours, (m).underlying, (m).nbb, (m).nbo,           \
-        (m).own_bid, (m).own_offer, (m).previous_close
+#define TERMS_OF(call, last)                                                                       \
+    lend_settings(call, last), (call)->settings_len, lend_market(call, last), (call)->market_len
 #define ORDER_OF(call, last)                                                                       \
     lend_symbols(call, last), (call)->symbols_len, lend_counts(call, last), (call)->counts_len,    \
         (call)->price, (call)->kind, (call)->stop, (call)->manual, (call)->opening,                \
-        SETTINGS_OF((call)->settings), MARKET_OF((call)->market)
+        TERMS_OF(call, last)
+
+/* The inline functions take structs, which there are for slices of the right lengths only. */
+static bool has_structs(const struct call *call) {
+    return call->settings_len == OPC_SETTINGS_COUNT && call->market_len == OPC_MARKET_COUNT;
+}
 
 static struct opc_answer answer_of(uint64_t number, struct lent_numbers *lent) {
     return (struct opc_answer){.number = number,
@@ -301,10 +329,15 @@ static struct opc_answer order_directly(const struct call *call, bool last) {
     return answer_of(number, &lent);
 }
 
+/* Where there are structs; otherwise directly. */
 static struct opc_answer order_inlined(const struct call *call) {
     bool last = (call->choice & 2) == 2;
+    if (!has_structs(call)) {
+        return order_directly(call, last);
+    }
     struct opc_order order = order_of(call, lend_symbols(call, last), lend_counts(call, last));
-    struct opc_answer answer = opc_answer_order(&order, &call->settings, &call->market);
+    struct opc_answer answer =
+        opc_answer_order(&order, lend_settings(call, last), lend_market(call, last));
     expect_kept(call);
     return answer;
 }
@@ -350,7 +383,8 @@ static struct call in_another_sequence(const struct call *call) {
 /* Both answers to an order, counted; gives the number. */
 static uint64_t ask_order(const struct call *call, struct opc_answer *second) {
     struct opc_order order = order_of(call, call->symbols, call->counts);
-    *second = second_check_order(&order, &call->settings, &call->market);
+    struct second_terms terms = terms_of(call);
+    *second = second_check_order(&order, &terms);
     struct opc_answer answer = order_directly(call, true);
     expect_equal(call, "the answer to an order", &answer, second, sizeof answer);
     count_order(call, &answer);
@@ -379,7 +413,7 @@ static void try_order(const struct call *call) {
     struct call turned = in_another_sequence(call);
     answer = order_inlined(&turned);
     expect_equal(&turned, "the answer in another sequence", &answer, &second, sizeof answer);
-    if (number == OPC_ACCEPTED || number >= OPC_CHECK_PUT) {
+    if (is_valid(number)) {
         ask_order_nearby(call);
     }
 }
@@ -405,9 +439,12 @@ static struct opc_answer tallied_directly(const struct call *call, bool last,
 
 static struct opc_answer tallied_inlined(const struct call *call, struct opc_tally *tally) {
     bool last = (call->choice & 2) == 2;
+    if (!has_structs(call)) {
+        return tallied_directly(call, last, tally);
+    }
     struct opc_order order = order_of(call, lend_symbols(call, last), lend_counts(call, last));
     struct opc_answer answer =
-        opc_answer_order_tallied(&order, &call->settings, &call->market, tally);
+        opc_answer_order_tallied(&order, lend_settings(call, last), lend_market(call, last), tally);
     expect_kept(call);
     return answer;
 }
@@ -417,13 +454,13 @@ static struct opc_answer tallied_inlined(const struct call *call, struct opc_tal
 
 static void try_tallied(const struct call *call) {
     struct opc_order order = order_of(call, call->symbols, call->counts);
+    struct second_terms terms = terms_of(call);
     struct opc_tally tally = call->tally;
     struct opc_tally second_tally = call->tally;
     for (int i = 0; i < TALLIED_CALLS; i++) {
         struct call now = *call; /* with the tally as it comes to this call */
         now.tally = tally;
-        struct opc_answer second =
-            second_check_order_tallied(&order, &now.settings, &now.market, &second_tally);
+        struct opc_answer second = second_check_order_tallied(&order, &terms, &second_tally);
         struct opc_answer answer = i == TALLIED_CALLS - 1 ? tallied_inlined(&now, &tally)
                                                           : tallied_directly(&now, i == 0, &tally);
         expect_equal(&now, "the answer to a tallied order", &answer, &second, sizeof answer);
@@ -441,8 +478,7 @@ static void try_tallied(const struct call *call) {
     tally = call->tally;
     second_tally = call->tally;
     struct opc_answer answer = tallied_inlined(&turned, &tally);
-    struct opc_answer second =
-        second_check_order_tallied(&order, &call->settings, &call->market, &second_tally);
+    struct opc_answer second = second_check_order_tallied(&order, &terms, &second_tally);
     expect_equal(&turned, "the tallied answer in another sequence", &answer, &second,
                  sizeof answer);
     expect_equal(&turned, "the tally in another sequence", &tally, &second_tally, sizeof tally);
@@ -453,9 +489,9 @@ static void try_tallied(const struct call *call) {
 static struct opc_quote_answer quote_directly(const struct call *call, bool last) {
     struct lent_numbers lent = lend_numbers(unset[last]);
     struct opc_quote_answer answer;
-    answer.number = opc_check_quote(lend_symbols(call, last), call->symbols_len, call->bid,
-                                    call->offer, call->resting, SETTINGS_OF(call->settings),
-                                    MARKET_OF(call->market), lent_number(&lent, 0));
+    answer.number =
+        opc_check_quote(lend_symbols(call, last), call->symbols_len, call->bid, call->offer,
+                        call->resting, TERMS_OF(call, last), lent_number(&lent, 0));
     answer.cancel = *lent_number(&lent, 0);
     expect_kept(call);
     expect_guards(call, &lent);
@@ -465,7 +501,8 @@ static struct opc_quote_answer quote_directly(const struct call *call, bool last
 /* Both answers to a quote, counted; gives the number. */
 static uint64_t ask_quote(const struct call *call, struct opc_quote_answer *second) {
     struct opc_quote quote = quote_of(call, call->symbols);
-    *second = second_check_quote(&quote, &call->settings, &call->market);
+    struct second_terms terms = terms_of(call);
+    *second = second_check_quote(&quote, &terms);
     struct opc_quote_answer answer = quote_directly(call, true);
     expect_equal(call, "the answer to a quote", &answer, second, sizeof answer);
     count_answer(call, answer.number);
@@ -492,11 +529,13 @@ static void try_quote(const struct call *call) {
     uint64_t number = ask_quote(call, &second);
     struct opc_quote_answer answer = quote_directly(call, false);
     expect_equal(call, "the answer to the quote again", &answer, &second, sizeof answer);
-    struct opc_quote quote = quote_of(call, lend_symbols(call, true));
-    answer = opc_answer_quote(&quote, &call->settings, &call->market);
-    expect_kept(call);
-    expect_equal(call, "the answer through structs", &answer, &second, sizeof answer);
-    if (number == OPC_ACCEPTED || number >= OPC_CHECK_PUT) {
+    if (has_structs(call)) {
+        struct opc_quote quote = quote_of(call, lend_symbols(call, true));
+        answer = opc_answer_quote(&quote, lend_settings(call, true), lend_market(call, true));
+        expect_kept(call);
+        expect_equal(call, "the answer through structs", &answer, &second, sizeof answer);
+    }
+    if (is_valid(number)) {
         ask_quote_nearby(call);
     }
 }

@@ -1,7 +1,7 @@
 /*
  * What is lent to an entry, under watch. The library's own code is not instrumented, so the
- * sanitizers do not see what it reads or writes: lent bytes lie against a page that may not be
- * touched, and everything around them is held to a copy afterwards.
+ * sanitizers do not see what it reads or writes: a lent slice lies against a page that may not be
+ * touched, and everything around it is held to a copy afterwards.
  *
  * Who includes this defines _DEFAULT_SOURCE first, for mmap and its anonymous pages.
  */
@@ -24,7 +24,7 @@
 struct lent {
     uint8_t *page;
     size_t size;
-    uint8_t *watched; /* the end of the page that the bytes lie at */
+    uint8_t *watched; /* the end of the page that the slice lies at; NULL before the first */
     uint8_t copy[WATCHED];
 };
 
@@ -39,22 +39,24 @@ static inline void make_page(struct lent *lent) {
     lent->size = page;
 }
 
-/* Lends the bytes at the first or the last place of the page; NULL for none, where asked. */
-static inline uint8_t *lend(struct lent *lent, const uint8_t *bytes, size_t len, bool last,
-                            bool null) {
+/*
+ * Lends so many bytes, or the bytes of numbers, at the first or the last place of the page; NULL
+ * for none, where asked. Both ends of a page are aligned, so numbers are.
+ */
+static inline void *lend(struct lent *lent, const void *slice, size_t size, bool last, bool null) {
     if (lent->page == NULL) {
         make_page(lent);
     }
-    size_t before = last ? WATCHED - len : 0;
+    size_t before = last ? WATCHED - size : 0;
     memset(lent->copy, AROUND, WATCHED);
-    memcpy(lent->copy + before, bytes, len);
+    memcpy(lent->copy + before, slice, size);
     lent->watched = last ? lent->page + lent->size - WATCHED : lent->page;
     memcpy(lent->watched, lent->copy, WATCHED);
-    return len == 0 && null ? NULL : lent->watched + before;
+    return size == 0 && null ? NULL : lent->watched + before;
 }
 
 static inline bool is_kept(const struct lent *lent) {
-    return memcmp(lent->watched, lent->copy, WATCHED) == 0;
+    return lent->watched == NULL || memcmp(lent->watched, lent->copy, WATCHED) == 0;
 }
 
 /* Lent numbers, each between two that must keep their values. */

@@ -7,12 +7,6 @@
 
 #include "call.h"
 
-static inline void take_numbers(struct input *in, uint64_t *numbers, size_t n) {
-    for (size_t i = 0; i < n; i++) {
-        numbers[i] = take_number(in, 8);
-    }
-}
-
 static inline void raw_slices(struct input *in, struct call *call) {
     if (is_order(call)) {
         call->symbols_len = (size_t)take_number(in, 2) % MOST_SYMBOL_BYTES;
@@ -25,12 +19,18 @@ static inline void raw_slices(struct input *in, struct call *call) {
     take_bytes(in, call->counts, call->counts_len);
 }
 
+/* Gives how many were taken. */
+static inline size_t raw_numbers(struct input *in, uint64_t *numbers, size_t most) {
+    size_t n = take(in) % most;
+    for (size_t i = 0; i < n; i++) {
+        numbers[i] = take_number(in, 8);
+    }
+    return n;
+}
+
 static inline void raw_settings_and_market(struct input *in, struct call *call) {
-    uint64_t numbers[SETTINGS];
-    take_numbers(in, numbers, SETTINGS);
-    memcpy(&call->settings, numbers, sizeof call->settings);
-    take_numbers(in, numbers, MARKET_VALUES);
-    memcpy(&call->market, numbers, sizeof call->market);
+    call->settings_len = raw_numbers(in, call->settings, MOST_SETTINGS);
+    call->market_len = raw_numbers(in, call->market, MOST_MARKET_VALUES);
 }
 
 static inline void raw_order(struct input *in, struct call *call) {

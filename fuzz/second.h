@@ -7,22 +7,27 @@
 uint64_t second_read_symbol(const uint8_t *symbol, size_t len, struct opc_symbol_parts *parts);
 uint64_t second_write_symbol(const struct opc_symbol_parts *parts, uint8_t *out, size_t len,
                              uint64_t *number);
+
+/* Settings and market, of any length. */
+struct second_terms {
+    const uint64_t *settings;
+    size_t settings_len;
+    const uint64_t *market;
+    size_t market_len;
+};
+
 struct opc_answer second_check_order(const struct opc_order *order,
-                                     const struct opc_settings *settings,
-                                     const struct opc_market *market);
+                                     const struct second_terms *terms);
 struct opc_answer second_check_order_tallied(const struct opc_order *order,
-                                             const struct opc_settings *settings,
-                                             const struct opc_market *market,
+                                             const struct second_terms *terms,
                                              struct opc_tally *tally);
 struct opc_quote_answer second_check_quote(const struct opc_quote *quote,
-                                           const struct opc_settings *settings,
-                                           const struct opc_market *market);
+                                           const struct second_terms *terms);
 
 /* Print a case for a reader, and the line that replays it; a tally is NULL where there is none. */
-void second_print_order(const struct opc_order *order, const struct opc_settings *settings,
-                        const struct opc_market *market, const struct opc_tally *tally);
-void second_print_quote(const struct opc_quote *quote, const struct opc_settings *settings,
-                        const struct opc_market *market);
+void second_print_order(const struct opc_order *order, const struct second_terms *terms,
+                        const struct opc_tally *tally);
+void second_print_quote(const struct opc_quote *quote, const struct second_terms *terms);
 
 /* Writes inputs to begin with, one file each. */
 void second_write_seeds(const char *folder);

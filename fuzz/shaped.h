@@ -296,7 +296,7 @@ static inline uint64_t shaped_setting(struct input *in, const struct limit *limi
 }
 
 static inline struct opc_settings shaped_settings(struct input *in) {
-    uint64_t numbers[SETTINGS];
+    uint64_t numbers[OPC_SETTINGS_COUNT];
     size_t at = 0;
     for (; at < 7; at++) {
         uint8_t byte = take(in);
@@ -361,11 +361,36 @@ static inline struct opc_market shaped_market(struct input *in, uint64_t strike)
     return market;
 }
 
+struct terms {
+    struct opc_settings settings;
+    struct opc_market market;
+};
+
+static inline struct terms shaped_terms(struct input *in, uint64_t strike) {
+    struct terms terms;
+    terms.settings = shaped_settings(in);
+    terms.market = shaped_market(in, strike);
+    return terms;
+}
+
+/* A slice's right length, or seldom one more or less, or any. */
+static inline size_t shaped_length(struct input *in, size_t right, size_t most) {
+    uint8_t byte = take(in);
+    return byte < 248 ? right : byte < 251 ? right - 1 : byte < 254 ? right + 1 : take(in) % most;
+}
+
+static inline void put_terms(struct input *in, struct call *call, const struct terms *terms) {
+    memcpy(call->settings, &terms->settings, sizeof terms->settings);
+    memcpy(call->market, &terms->market, sizeof terms->market);
+    call->settings_len = shaped_length(in, OPC_SETTINGS_COUNT, MOST_SETTINGS);
+    call->market_len = shaped_length(in, OPC_MARKET_COUNT, MOST_MARKET_VALUES);
+}
+
 /* Some price of the market, a strike, or the difference of two, and a distance from it. */
-static inline int64_t shaped_line(struct input *in, const struct call *call,
+static inline int64_t shaped_line(struct input *in, const struct terms *terms,
                                   const struct shaped_leg *legs, size_t n) {
-    const struct opc_settings *s = &call->settings;
-    const struct opc_market *m = &call->market;
+    const struct opc_settings *s = &terms->settings;
+    const struct opc_market *m = &terms->market;
     uint64_t first = n == 0 ? 0 : legs[0].strike;
     uint64_t other = n == 0 ? 0 : legs[take(in) % n].strike;
     uint64_t between = first > other ? first - other : other - first;
@@ -401,12 +426,12 @@ static inline int64_t shaped_line(struct input *in, const struct call *call,
     return (int64_t)(near % (UINT64_C(1) << 62)) - 1;
 }
 
-static inline int64_t shaped_order_price(struct input *in, const struct call *call,
+static inline int64_t shaped_order_price(struct input *in, const struct terms *terms,
                                          const struct shaped_leg *legs, size_t n) {
     static const int64_t sizes[] = {0,  1, 1000000000000, 1000000000001, INT64_MAX, INT64_MIN,
                                     30, 2};
     uint8_t byte = take(in);
-    int64_t size = byte < 224   ? shaped_line(in, call, legs, n)
+    int64_t size = byte < 224   ? shaped_line(in, terms, legs, n)
                    : byte < 248 ? (int64_t)take_number(in, 2)
                                 : sizes[byte % 8];
     if (n == 1) {
@@ -439,15 +464,15 @@ static inline void shaped_order(struct input *in, struct call *call) {
     struct shaped_leg legs[SHAPED_LEGS];
     struct pool pool = shaped_pool(in);
     size_t n = shaped_legs(in, &pool, legs);
-    call->settings = shaped_settings(in);
-    call->market = shaped_market(in, n == 0 ? 1 : legs[0].strike);
-    call->price = shaped_order_price(in, call, legs, n);
+    struct terms terms = shaped_terms(in, n == 0 ? 1 : legs[0].strike);
+    call->price = shaped_order_price(in, &terms, legs, n);
     call->kind = shaped_flag(in, 192);
     call->stop = shaped_flag(in, 224);
     call->manual = shaped_flag(in, 224);
     call->opening = shaped_flag(in, 192);
     scale(in, legs, n);
     put_legs(call, pool.root, legs, n);
+    put_terms(in, call, &terms);
     if (call->entry == CHECK_ORDER_TALLIED) {
         call->tally = shaped_tally(in);
     }
@@ -476,17 +501,17 @@ static inline void shaped_quote(struct input *in, struct call *call) {
     static const int64_t apart[] = {1, 1, 2, 5, 10, 100, 1000, LARGEST_MARKET_VALUE};
     struct pool pool = shaped_pool(in);
     struct shaped_leg leg = shaped_leg(in, &pool);
-    call->settings = shaped_settings(in);
-    call->market = shaped_market(in, leg.strike);
-    int64_t one = shaped_line(in, call, &leg, 1);
+    struct terms terms = shaped_terms(in, leg.strike);
+    int64_t one = shaped_line(in, &terms, &leg, 1);
     uint8_t byte = take(in);
     int64_t by = byte < 248 ? apart[byte % 8] : 0;
     call->bid = (uint64_t)(byte < 128 || one <= by ? one : one - by);
     call->offer = (uint64_t)(byte < 128 ? one + by : one);
     if (byte % 16 == 9) {
-        call->offer = (uint64_t)shaped_line(in, call, &leg, 1);
+        call->offer = (uint64_t)shaped_line(in, &terms, &leg, 1);
     }
     call->resting = shaped_flag(in, 128);
+    put_terms(in, call, &terms);
     shaped_symbol(in, call, &pool, &leg, 232, 240);
 }
 

@@ -3,12 +3,14 @@
 
 use crate::{
     arrival::{Answer, Arrival},
+    numbers::{kind, Kind},
     order,
     quote::{Quote, QuoteAnswer},
     quote_check,
     run::Seen,
+    slices::{self, market, setting},
     tally::{self, Tallied, TalliedAnswer},
-    unit, ACCEPTED,
+    unit,
 };
 use std::fmt::{Debug, Display};
 
@@ -21,7 +23,14 @@ pub trait Case: Display {
     /// The case for a reader, every line with two spaces in front.
     fn described(&self) -> String;
 
-    fn count(answer: &Self::Answer, seen: &mut Seen);
+    /// Counts what was lent and answered.
+    fn count(&self, answer: &Self::Answer, seen: &mut Seen);
+}
+
+fn terms(settings: &[u64], market: &[u64]) -> String {
+    let [settings, market] = [(setting::NAMES, settings), (market::NAMES, market)]
+        .map(|(names, numbers)| slices::described(names, numbers));
+    format!("  settings: {settings}\n  market: {market}")
 }
 
 impl Case for Arrival {
@@ -39,23 +48,22 @@ impl Case for Arrival {
         format!(
             "  legs: {}
   price {}, kind {}, stop {}, manual {}, opening {}
-  {:?}
-  {:?}",
+{}",
             self.legs_as_text(),
             self.price,
             self.kind,
             self.stop,
             self.manual,
             self.opening,
-            self.settings,
-            self.market,
+            terms(&self.settings, &self.market),
         )
     }
 
     /// Classes, shapes and pairings are those of valid orders.
-    fn count(answer: &Answer, seen: &mut Seen) {
+    fn count(&self, answer: &Answer, seen: &mut Seen) {
+        seen.count_lengths(&self.settings, &self.market);
         *seen.numbers.entry(answer.number).or_default() += 1;
-        if answer.number == ACCEPTED || answer.number >= 20 {
+        if kind(answer.number) != Kind::Refused {
             *seen.classes.entry(answer.class).or_default() += 1;
             *seen.shapes.entry(answer.shape).or_default() += 1;
             *seen.pairings.entry(answer.pairings).or_default() += 1;
@@ -78,8 +86,8 @@ impl Case for Tallied {
         format!("  {:?}\n{}", self.tally, self.arrival.described())
     }
 
-    fn count(answer: &TalliedAnswer, seen: &mut Seen) {
-        Arrival::count(&answer.answer, seen);
+    fn count(&self, answer: &TalliedAnswer, seen: &mut Seen) {
+        self.arrival.count(&answer.answer, seen);
     }
 }
 
@@ -98,18 +106,17 @@ impl Case for Quote {
         format!(
             "  quote of \"{}\"
   bid {}, offer {}, resting {}
-  {:?}
-  {:?}",
+{}",
             self.symbol.escape_ascii(),
             self.bid,
             self.offer,
             self.resting,
-            self.settings,
-            self.market,
+            terms(&self.settings, &self.market),
         )
     }
 
-    fn count(answer: &QuoteAnswer, seen: &mut Seen) {
+    fn count(&self, answer: &QuoteAnswer, seen: &mut Seen) {
+        seen.count_lengths(&self.settings, &self.market);
         *seen.numbers.entry(answer.number).or_default() += 1;
         *seen.cancels.entry(answer.cancel).or_default() += 1;
     }

@@ -6,10 +6,10 @@
 //! bid with its sign turned, and what is missing stays zero.
 
 use crate::{
-    arrival::{Market, Settings, HALT, OPEN},
     class::{CREDIT, DEBIT},
     legs::{Leg, OptionType},
     shape::Shape,
+    slices::{market::*, setting::*},
 };
 
 /// A valid order, with what was found out about it.
@@ -25,15 +25,17 @@ pub struct Order {
     pub shape: Shape,
 }
 
-/// Every check with whether it would reject the order, were it on.
-pub fn all(order: &Order, settings: &Settings, market: &Market) -> [(u64, bool); 6] {
+/// Every check with whether it is on and rejects the order.
+pub fn all(order: &Order, settings: &[u64], market: &[u64]) -> [(u64, bool); 6] {
+    let on = |switch: usize| settings[switch] != 0;
+    let distant = on(CHECK_25) && tick_distance(order, settings, market);
     [
-        (20, put_strike(order)),
-        (21, call_underlying(order, settings, market)),
-        (22, buy_buy_sell_sell(order, settings)),
-        (23, debit_credit(order)),
-        (24, maximum_value(order, settings)),
-        (25, tick_distance(order, settings, market)),
+        (20, on(CHECK_20) && put_strike(order)),
+        (21, on(CHECK_21) && call_underlying(order, settings, market)),
+        (22, on(CHECK_22) && buy_buy_sell_sell(order, settings)),
+        (23, on(CHECK_23) && debit_credit(order)),
+        (24, on(CHECK_24) && maximum_value(order, settings)),
+        (25, distant),
     ]
 }
 
@@ -55,20 +57,20 @@ fn put_strike(order: &Order) -> bool {
     simple_buy(order, OptionType::Put).is_some_and(|leg| order.price >= leg.strike)
 }
 
-fn call_underlying(order: &Order, settings: &Settings, market: &Market) -> bool {
-    let applies = market.underlying != 0 && settings.adjusted == 0 && market.extended_hours == 0;
+fn call_underlying(order: &Order, settings: &[u64], market: &[u64]) -> bool {
+    let applies = market[UNDERLYING] != 0 && settings[ADJUSTED] == 0 && market[EXTENDED_HOURS] == 0;
     applies
         && simple_buy(order, OptionType::Call).is_some()
-        && order.price >= i128::from(market.underlying)
+        && order.price >= i128::from(market[UNDERLYING])
 }
 
-fn buy_buy_sell_sell(order: &Order, settings: &Settings) -> bool {
+fn buy_buy_sell_sell(order: &Order, settings: &[u64]) -> bool {
     if simple(order).is_some() || order.is_market {
         return false;
     }
     let bought: i128 = order.units.iter().map(|leg| leg.count.max(0)).sum();
     let sold: i128 = order.units.iter().map(|leg| (-leg.count).max(0)).sum();
-    let increment = i128::from(settings.net_increment);
+    let increment = i128::from(settings[NET_INCREMENT]);
     match (bought, sold) {
         (_, 0) => order.price < bought * increment,
         (0, _) => -order.price < sold * increment,
@@ -85,25 +87,25 @@ fn debit_credit(order: &Order) -> bool {
     paid_for_credit || received_for_debit && !order.is_market
 }
 
-fn maximum_value(order: &Order, settings: &Settings) -> bool {
+fn maximum_value(order: &Order, settings: &[u64]) -> bool {
     let most = |maximum| maximum + allowance(settings, maximum);
     let maximum = order.shape.maximum();
     maximum.is_some_and(|maximum| order.price.abs() > most(maximum))
 }
 
 /// Raised to the minimum and lowered to the maximum, which is not below it: the middle one of three.
-pub fn allowance(settings: &Settings, maximum: i128) -> i128 {
-    let part = (maximum * i128::from(settings.percentage)).div_euclid(10_000);
+pub fn allowance(settings: &[u64], maximum: i128) -> i128 {
+    let part = (maximum * i128::from(settings[PERCENTAGE])).div_euclid(10_000);
     let mut three = [
         part,
-        settings.preset_minimum.into(),
-        settings.preset_maximum.into(),
+        settings[PRESET_MINIMUM].into(),
+        settings[PRESET_MAXIMUM].into(),
     ];
     three.sort_unstable();
     three[1]
 }
 
-fn tick_distance(order: &Order, settings: &Settings, market: &Market) -> bool {
+fn tick_distance(order: &Order, settings: &[u64], market: &[u64]) -> bool {
     let Some(leg) = simple(order) else {
         return false;
     };
@@ -123,18 +125,18 @@ pub struct Seen {
 }
 
 impl Seen {
-    pub fn from(market: &Market, side: i128) -> Self {
+    pub fn from(market: &[u64], side: i128) -> Self {
         let (near, far, own_far) = if side > 0 {
-            (market.nbb, market.nbo, market.own_offer)
+            (market[NBB], market[NBO], market[OWN_OFFER])
         } else {
-            (market.nbo, market.nbb, market.own_bid)
+            (market[NBO], market[NBB], market[OWN_BID])
         };
         let turned = |price: u64| i128::from(price) * side;
         Seen {
             near: turned(near),
             far: turned(far),
             own_far: turned(own_far),
-            close: turned(market.close),
+            close: turned(market[CLOSE]),
         }
     }
 
@@ -148,10 +150,10 @@ impl Seen {
 }
 
 /// The price that 25 measures from, 0 if it is missing.
-fn reference(seen: &Seen, market: &Market) -> i128 {
-    let elsewhere = market.open_elsewhere != 0;
+fn reference(seen: &Seen, market: &[u64]) -> i128 {
+    let elsewhere = market[OPEN_ELSEWHERE] != 0;
     let far_alone_missing = seen.far == 0 && seen.near != 0;
-    match market.phase {
+    match market[PHASE] {
         HALT => seen.far,
         OPEN if seen.nbbo_is_unreliable() => seen.own_far,
         OPEN => seen.far,
@@ -162,14 +164,15 @@ fn reference(seen: &Seen, market: &Market) -> i128 {
 }
 
 /// D, by the band and the tick of the reference.
-pub fn distance(settings: &Settings, reference: i128) -> i128 {
-    let ticks = settings.distances[reached(&[1_000, 3_000, 10_000], reference)];
+pub fn distance(settings: &[u64], reference: i128) -> i128 {
+    let ticks =
+        settings[ATD_BELOW_1000..=ATD_FROM_10000][reached(&[1_000, 3_000, 10_000], reference)];
     i128::from(ticks) * tick(settings, reference)
 }
 
 /// The tick at a price.
-pub fn tick(settings: &Settings, price: i128) -> i128 {
-    [settings.tick_below_3000, settings.tick_from_3000][reached(&[3_000], price)].into()
+pub fn tick(settings: &[u64], price: i128) -> i128 {
+    settings[TICK_BELOW_3000..=TICK_FROM_3000][reached(&[3_000], price)].into()
 }
 
 /// How many of some limits a price has reached.

@@ -11,9 +11,10 @@
 //!   order away from the initial HAL price: an execution.
 
 use crate::{
-    arrival::{Answer, Arrival, Market, RawLeg, Settings, EXAMPLE_MARKET, EXAMPLE_SETTINGS},
+    arrival::{Answer, Arrival, RawLeg},
     quote::{Quote, QuoteAnswer},
     series::{call, put, Series},
+    slices::{market::*, setting::*},
 };
 
 pub struct Example {
@@ -50,15 +51,9 @@ fn market_order(legs: &[RawLeg], price: i64) -> Arrival {
     }
 }
 
-fn with_settings(arrival: Arrival, settings: Settings) -> Arrival {
-    Arrival {
-        settings,
-        ..arrival
-    }
-}
-
-fn with_market(arrival: Arrival, market: Market) -> Arrival {
-    Arrival { market, ..arrival }
+fn with_market(mut arrival: Arrival, place: usize, value: u64) -> Arrival {
+    arrival.market[place] = value;
+    arrival
 }
 
 /// A place, what arrives, and its number, class, shape and pairings.
@@ -106,11 +101,8 @@ fn calls_and_put() -> Vec<RawLeg> {
 
 /// The purchase of T11 and of 000, Orders 1 and 2, with the underlying at $10.
 fn call_at_ten_dollars(price: i64) -> Arrival {
-    let underlying = Market {
-        underlying: 10_000,
-        ..EXAMPLE_MARKET
-    };
-    with_market(limit(&[call(MAR, 5_000).leg(1)], price), underlying)
+    let purchase = limit(&[call(MAR, 5_000).leg(1)], price);
+    with_market(purchase, UNDERLYING, 10_000)
 }
 
 fn complex_of_document_01() -> Vec<Example> {
@@ -140,11 +132,10 @@ fn complex_of_document_01() -> Vec<Example> {
 fn calendars_of_document_01() -> Vec<Example> {
     let t8 = [call(MAR, 20_000).leg(1), call(JUN, 20_000).leg(-1)];
     let t10 = [&t8[..], &[call(SEP, 20_000).leg(1)]].concat();
-    let european = Settings {
-        european: 1,
-        ..EXAMPLE_SETTINGS
+    let european = |mut arrival: Arrival| {
+        arrival.settings[EUROPEAN] = 1;
+        arrival
     };
-    let european = |arrival| with_settings(arrival, european);
     collect(vec![
         ("T8", limit(&t8, -1_000), [0, 2, 0, 1]),
         ("T8", limit(&t8, 1_000), [23, 2, 0, 1]),
@@ -158,11 +149,7 @@ fn calendars_of_document_01() -> Vec<Example> {
 fn simple_of_document_01() -> Vec<Example> {
     let one_call = [call(MAR, 5_000).leg(1)];
     let one_put = [put(MAR, 18_000).leg(1)];
-    let nbo = Market {
-        nbo: 1_200,
-        ..EXAMPLE_MARKET
-    };
-    let offered = |price| with_market(limit(&one_call, price), nbo);
+    let offered = |price| with_market(limit(&one_call, price), NBO, 1_200);
     collect(vec![
         ("T11, call", call_at_ten_dollars(8_000), [0, 1, 0, 0]),
         ("T11, call", call_at_ten_dollars(11_000), [21, 1, 0, 0]),
@@ -258,17 +245,16 @@ fn pairs_of_000() -> Vec<Example> {
 
 /// 000, Maximum Value Acceptable Price Range, examples 1 to 3.
 fn maximum_value_of_000() -> Vec<Example> {
-    let set = |percentage, preset_minimum, preset_maximum| Settings {
-        percentage,
-        preset_minimum,
-        preset_maximum,
-        ..EXAMPLE_SETTINGS
+    let set = |mut arrival: Arrival, percentage_and_presets: [u64; 3]| {
+        let settings = &mut arrival.settings[PERCENTAGE..=PRESET_MAXIMUM];
+        settings.copy_from_slice(&percentage_and_presets);
+        arrival
     };
     let e1 = legs(call, AUG, &[(1, 25), (-1, 30)]);
-    let e1 = |price| with_settings(market_order(&e1, price), set(500, 50, 500));
+    let e1 = |price| set(market_order(&e1, price), [500, 50, 500]);
     let e2 = legs(put, NOV, &[(1, 10), (-2, 20), (1, 30)]);
-    let e2 = |price| with_settings(limit(&e2, price), set(200, 300, 900));
-    let e3 = |price| with_settings(limit(&box_spread(), price), set(300, 200, 600));
+    let e2 = |price| set(limit(&e2, price), [200, 300, 900]);
+    let e3 = |price| set(limit(&box_spread(), price), [300, 200, 600]);
     collect(vec![
         ("000, maximum #1", e1(6_600), [24, 1, 1, 1]),
         ("000, maximum #1", e1(5_200), [0, 1, 1, 1]),
@@ -287,11 +273,7 @@ fn of_004() -> Vec<Example> {
     let sale = legs(call, MAR, &[(-1, 45), (-1, 50)]);
     let purchase = legs(call, MAR, &[(1, 45), (1, 50)]);
     let penny = [call(MAR, 20_000).leg(1)];
-    let initial = Market {
-        nbo: 1_200,
-        ..EXAMPLE_MARKET
-    };
-    let penny = |price| with_market(limit(&penny, price), initial);
+    let penny = |price| with_market(limit(&penny, price), NBO, 1_200);
     collect(vec![
         // 'five ticks (i.e., $0.05) ... a limit order to buy that is priced above $1.25', there from
         // the initial HAL price, here from the NBO
@@ -343,14 +325,11 @@ fn quotes_of_put() -> Vec<QuoteRow> {
 fn quotes_at_three_dollars() -> Vec<QuoteRow> {
     let quote = |bid, offer, at_best: bool| {
         let mut quote = Quote::new(&call(MAR, 20_000).symbol(), bid, offer);
-        quote.settings.set_ticks = 3;
-        (
-            quote.settings.tick_below_3000,
-            quote.settings.tick_from_3000,
-        ) = (50, 100);
-        (quote.market.nbb, quote.market.nbo) = (3_100, 3_400);
+        quote.settings[SET_TICKS] = 3;
+        quote.settings[TICK_BELOW_3000..=TICK_FROM_3000].copy_from_slice(&[50, 100]);
+        quote.market[NBB..=NBO].copy_from_slice(&[3_100, 3_400]);
         if at_best {
-            (quote.market.own_bid, quote.market.own_offer) = (3_100, 3_400);
+            quote.market[OWN_BID..=OWN_OFFER].copy_from_slice(&[3_100, 3_400]);
         }
         quote
     };
@@ -372,9 +351,8 @@ fn quotes_at_three_dollars() -> Vec<QuoteRow> {
 fn quotes_at_one_dollar() -> Vec<QuoteRow> {
     let quote = |bid, own_offer| {
         let mut quote = Quote::new(&call(MAR, 20_000).symbol(), bid, 2_000);
-        quote.settings.set_ticks = 5;
-        (quote.market.nbb, quote.market.nbo) = (1_000, 1_200);
-        (quote.market.own_bid, quote.market.own_offer) = (1_000, own_offer);
+        quote.settings[SET_TICKS] = 5;
+        quote.market[NBB..=OWN_OFFER].copy_from_slice(&[1_000, 1_200, 1_000, own_offer]);
         quote
     };
     vec![

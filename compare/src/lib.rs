@@ -1,10 +1,11 @@
 //! The proved library beside a second implementation of the same rules, in the same types, so that
 //! a test can put one question to both.
 //!
-//! `unit` is the library. The second implementation is `osi` for symbols, `order`, with `pairing`,
-//! `shape`, `class` and `checks` below it, for orders, `tally` for tallied ones and `quote_check` for
-//! quotes. `examples` are those of the papers, `generate` and `limits` make cases up, and `run`
-//! puts them to both and counts.
+//! `unit` is the library. `numbers` has every number with its kind, `slices` the names of settings
+//! and market. The second implementation is `osi` for symbols, `order`, with `pairing`, `shape`,
+//! `class` and `checks` below it, for orders, `tally` for tallied ones and `quote_check` for quotes.
+//! `examples` are those of the papers, `generate` and `limits` make cases up, and `run` puts them to
+//! both and counts.
 #![deny(unsafe_code)]
 
 pub mod arrival;
@@ -15,6 +16,7 @@ pub mod examples;
 pub mod generate;
 pub mod legs;
 pub mod limits;
+pub mod numbers;
 pub mod order;
 pub mod osi;
 pub mod pairing;
@@ -24,6 +26,7 @@ pub mod random;
 pub mod run;
 pub mod series;
 pub mod shape;
+pub mod slices;
 pub mod tally;
 pub mod text;
 #[allow(unsafe_code)] // calls through C
@@ -32,13 +35,9 @@ pub mod unit;
 /// The bytes of a symbol.
 pub const SYMBOL_LENGTH: usize = 21;
 
-pub const ACCEPTED: u64 = 0;
-pub const NOT_21_BYTES: u64 = 1;
-pub const SHORT_BUFFER: u64 = 2;
-pub const BAD_SYMBOL: u64 = 4;
-
 /// The parts of a symbol as the C face carries them: `root` is its six bytes as one number, the
 /// first byte highest; `option_type` is the byte `C` or `P`; `strike` is in mills.
+#[repr(C)]
 #[derive(Clone, Copy, Debug, Default, PartialEq, Eq)]
 pub struct Parts {
     pub root: u64,

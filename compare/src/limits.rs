@@ -1,7 +1,13 @@
 //! What the tests of orders and of quotes share: values around every limit of settings and market,
 //! and every choice of faults, of switches and of values.
 
-use crate::{case::Case, run::Run};
+use crate::{
+    case::Case,
+    numbers::{ACCEPTED, BAD_MARKET, BAD_SETTING},
+    order::lowest,
+    run::Run,
+    slices::{market, setting, setting::*, EXAMPLE_SETTINGS},
+};
 
 /// Values that a number cut short would take for others, and the largest.
 pub const EXTREMES: [u64; 4] = [1 << 32, 1 << 63, u64::MAX - 1, u64::MAX];
@@ -25,14 +31,14 @@ pub fn of_settings() -> Vec<Limit> {
     let around = [0, 1, 2, 3, 599, 600, 601, 999, 1_000, 1_001, 9_999, 10_000];
     let far = [10_001, 999_999, 1_000_000, 1_000_001, (1 << 32) + 5];
     let values = [&around[..], &far, &EXTREMES].concat();
-    at_each_place(7, &limits, &values)
+    at_each_place(TICK_BELOW_3000, &limits, &values)
 }
 
 /// The same for the market.
 pub fn of_market() -> Vec<Limit> {
     let phase_and_flags = [(0, 2), (0, u64::MAX), (0, u64::MAX)];
     let limits = [&phase_and_flags[..], &[(0, LARGEST_MARKET_VALUE); 6]].concat();
-    at_each_place(0, &limits, &around_market_values())
+    at_each_place(market::PHASE, &limits, &around_market_values())
 }
 
 /// Values around the limits of a phase and of a price in the market or in a quote.
@@ -70,14 +76,52 @@ pub fn faults_together<C: Clone>(case: &C, faults: &[Fault<C>]) -> Vec<(C, u64)>
     (0..1 << faults.len()).map(with_faults).collect()
 }
 
-/// All settings of the switches, each with the first of some checks that is on, 0 if none is.
-pub fn every_switching(rejecting: &[u64]) -> Vec<([u64; 7], u64)> {
-    let with_first = |switches: u64| {
-        let on = |number: u64| switches >> (number - 20) & 1;
-        let first = rejecting.iter().copied().find(|&number| on(number) == 1);
-        ([20, 21, 22, 23, 24, 25, 26].map(on), first.unwrap_or(0))
+/// The examples' settings with every choice of switches, each with the first of some checks that is
+/// on, 0 if none is.
+pub fn every_switching(rejecting: &[u64]) -> Vec<(Vec<u64>, u64)> {
+    let numbers = [20, 21, 22, 23, 24, 25, 26];
+    let places = [
+        CHECK_20, CHECK_21, CHECK_22, CHECK_23, CHECK_24, CHECK_25, CHECK_26,
+    ];
+    let with_first = |switches: [u64; 7]| {
+        let (mut settings, mut first) = (EXAMPLE_SETTINGS.to_vec(), ACCEPTED);
+        for ((number, place), switch) in numbers.into_iter().zip(places).zip(switches).rev() {
+            settings[place] = switch;
+            if switch == 1 && rejecting.contains(&number) {
+                first = number;
+            }
+        }
+        (settings, first)
     };
-    (0..1 << 7).map(with_first).collect()
+    every(&[0, 1]).map(with_first).collect()
+}
+
+/// Lengths of a slice that should have another: none, one too few, one too many, twice.
+pub fn wrong_lengths(right: usize) -> [usize; 4] {
+    [0, right - 1, right + 1, 2 * right]
+}
+
+/// Right lengths of settings and market, and every wrong one up to twice the right one and a byte's
+/// range above it; with the number of a case that gets some number with right ones.
+pub fn every_length(number: u64) -> Vec<(usize, usize, u64)> {
+    let right = [setting::LENGTH, market::LENGTH];
+    let [settings, market] = right.map(|right| {
+        let wrong = (0..right).chain(right + 1..=2 * right);
+        wrong.chain([right + 256]).collect::<Vec<usize>>()
+    });
+    let mut lengths = vec![(setting::LENGTH, market::LENGTH)];
+    lengths.extend(settings.iter().map(|&length| (length, market::LENGTH)));
+    lengths.extend(market.iter().map(|&length| (setting::LENGTH, length)));
+    lengths.extend(settings.into_iter().zip(market));
+    let with_number = |(settings, market)| {
+        let numbers = [
+            (number, number != ACCEPTED),
+            (BAD_SETTING, settings != setting::LENGTH),
+            (BAD_MARKET, market != market::LENGTH),
+        ];
+        (settings, market, lowest(&numbers).unwrap_or(ACCEPTED))
+    };
+    lengths.into_iter().map(with_number).collect()
 }
 
 /// Where a number stands that is 0 for no, and anything else for yes.

@@ -2,15 +2,18 @@
 //! own, all are asked, and the lowest number among those that apply is given.
 
 use crate::{
-    arrival::{Answer, Arrival, Market, Settings},
+    arrival::{Answer, Arrival},
     checks::{self, Order},
     class,
     legs::{units, Leg},
+    numbers::{ACCEPTED, BAD_MARKET, BAD_SETTING, BAD_SYMBOL, NOT_21_BYTES},
     osi,
     pairing::{self, Paired},
     shape::Shape,
-    Parts, ACCEPTED, SYMBOL_LENGTH,
+    slices::{market, setting::*},
+    Parts, SYMBOL_LENGTH,
 };
+use std::ops::RangeInclusive;
 
 const COUNT_LENGTH: usize = 8;
 const MOST_LEGS: usize = 16;
@@ -36,7 +39,7 @@ fn check_paired(arrival: &Arrival, pair: fn(&[Leg], bool) -> Paired) -> Answer {
     let order_legs = legs.valid();
     let units = units(&order_legs);
     let shape = Shape::of(&units);
-    let paired = pair(&order_legs, arrival.settings.european != 0);
+    let paired = pair(&order_legs, arrival.settings[EUROPEAN] != 0);
     let order = Order {
         class: class::of(&order_legs, &shape, &paired),
         units,
@@ -48,13 +51,8 @@ fn check_paired(arrival: &Arrival, pair: fn(&[Leg], bool) -> Paired) -> Answer {
         shape,
     };
     let checks = checks::all(&order, &arrival.settings, &arrival.market);
-    let switched = checks.map(|(number, rejects)| {
-        // The switches of 20 to 26 stand in the sequence of their numbers.
-        let switch = arrival.settings.switches[number as usize - 20];
-        (number, rejects && switch != 0)
-    });
     Answer {
-        number: lowest(&switched).unwrap_or(ACCEPTED),
+        number: lowest(&checks).unwrap_or(ACCEPTED),
         class: order.class,
         shape: shape.number(),
         pairings: paired.pairings,
@@ -119,15 +117,15 @@ fn signed(bytes: &[u8]) -> i128 {
 /// Every refusal with whether it applies.
 fn refusals(arrival: &Arrival, legs: &RawLegs) -> [(u64, bool); 9] {
     [
-        (10, !market_is_within_limits(&arrival.market)),
-        (9, !settings_are_within_limits(&arrival.settings)),
+        (BAD_MARKET, !market_is_within_limits(&arrival.market)),
+        (BAD_SETTING, !settings_are_within_limits(&arrival.settings)),
         (8, price_is_wrong(arrival.price.into(), &legs.counts)),
         (7, some_two(&legs.parts, roots_differ)),
         (6, some_two(&legs.symbols, |one, other| one == other)),
         (5, legs.counts.iter().any(|&count| count_is_wrong(count))),
-        (4, legs.parts.contains(&None)),
+        (BAD_SYMBOL, legs.parts.contains(&None)),
         (3, !(1..=MOST_LEGS).contains(&legs.symbols.len())),
-        (1, legs.broken),
+        (NOT_21_BYTES, legs.broken),
     ]
 }
 
@@ -157,22 +155,24 @@ fn price_is_wrong(price: i128, counts: &[i128]) -> bool {
     price.abs() > LARGEST_PRICE || sign_is_wrong
 }
 
-pub fn settings_are_within_limits(settings: &Settings) -> bool {
-    let increments = [
-        settings.tick_below_3000,
-        settings.tick_from_3000,
-        settings.net_increment,
-    ];
-    let presets = settings.preset_minimum..=settings.preset_maximum;
-    increments.iter().all(|n| (1..=1_000).contains(n))
-        && settings.distances.iter().all(|n| (2..=1_000).contains(n))
-        && (0..=10_000).contains(&settings.percentage)
-        && (0..=1_000).contains(&settings.set_ticks)
-        && *presets.end() <= 1_000_000
-        && !presets.is_empty()
+pub fn settings_are_within_limits(settings: &[u64]) -> bool {
+    let all = |places: RangeInclusive<usize>, limits: RangeInclusive<u64>| {
+        settings[places].iter().all(|value| limits.contains(value))
+    };
+    settings.len() == LENGTH
+        && all(TICK_BELOW_3000..=NET_INCREMENT, 1..=1_000)
+        && all(ATD_BELOW_1000..=ATD_FROM_10000, 2..=1_000)
+        && all(PERCENTAGE..=PERCENTAGE, 0..=10_000)
+        && all(PRESET_MINIMUM..=PRESET_MAXIMUM, 0..=1_000_000)
+        && settings[PRESET_MINIMUM..=PRESET_MAXIMUM].is_sorted()
+        && all(SET_TICKS..=SET_TICKS, 0..=1_000)
 }
 
-pub fn market_is_within_limits(market: &Market) -> bool {
-    let [phase, _open_elsewhere, _extended_hours, values @ ..] = market.numbers();
-    phase <= 2 && values.iter().all(|&value| value <= LARGEST_MARKET_VALUE)
+pub fn market_is_within_limits(market: &[u64]) -> bool {
+    let [phase, _open_elsewhere, _extended_hours, values @ ..] = market else {
+        return false;
+    };
+    market.len() == market::LENGTH
+        && *phase <= 2
+        && values.iter().all(|&value| value <= LARGEST_MARKET_VALUE)
 }

@@ -6,7 +6,8 @@
 //! parts are inside the layout if the text made of them reads back as the same parts.
 
 use crate::{
-    Parts, Read, Written, ACCEPTED, BAD_SYMBOL, NOT_21_BYTES, SHORT_BUFFER, SYMBOL_LENGTH,
+    numbers::{ACCEPTED, BAD_SYMBOL, NOT_21_BYTES, SHORT_BUFFER},
+    Parts, Read, Written, SYMBOL_LENGTH,
 };
 
 const LETTERS: &str = "ABCDEFGHIJKLMNOPQRSTUVWXYZ";
@@ -95,10 +96,10 @@ fn root_number(field: &str) -> Option<u64> {
     let mut characters = name.chars();
     let letter_first = LETTERS.contains(characters.next()?);
     let rest_fits = characters.all(|c| LETTERS.contains(c) || DIGITS.contains(c));
-    let bytes: [u8; 6] = field.as_bytes().try_into().ok()?;
-    let hexadecimal: String = bytes.iter().map(|byte| format!("{byte:02x}")).collect();
-    let number = u64::from_str_radix(&hexadecimal, 16).ok()?;
-    (letter_first && rest_fits).then_some(number)
+    let &[a, b, c, d, e, f] = field.as_bytes() else {
+        return None;
+    };
+    (letter_first && rest_fits).then_some(u64::from_be_bytes([0, 0, a, b, c, d, e, f]))
 }
 
 /// The six bytes of a number as text, if it is no larger and they are text.

@@ -2,15 +2,15 @@
 //! arrival it can be written as one line of text and read back.
 
 use crate::{
-    arrival::{Market, Settings, EXAMPLE_MARKET, EXAMPLE_SETTINGS},
-    text::{bytes, hexadecimal, list, numbers},
+    slices::{EXAMPLE_MARKET, EXAMPLE_SETTINGS},
+    text::{bytes, hexadecimal, just, list, numbers},
 };
 use std::{fmt, str::FromStr};
 
 /// The first word of a line that holds a quote.
 pub const QUOTE: &str = "quote";
 
-/// Everything that one call is handed. The symbol may hold anything and be of any length.
+/// Everything that one call is handed. The slices may hold anything and be of any length.
 #[derive(Clone, Debug, PartialEq, Eq)]
 pub struct Quote {
     pub symbol: Vec<u8>,
@@ -18,11 +18,12 @@ pub struct Quote {
     pub offer: u64,
     /// Whether a quote is resting already.
     pub resting: u64,
-    pub settings: Settings,
-    pub market: Market,
+    pub settings: Vec<u64>,
+    pub market: Vec<u64>,
 }
 
 /// The whole answer of the quote check.
+#[repr(C)]
 #[derive(Clone, Copy, Debug, PartialEq, Eq)]
 pub struct QuoteAnswer {
     pub number: u64,
@@ -37,14 +38,14 @@ impl Quote {
             bid,
             offer,
             resting: 0,
-            settings: EXAMPLE_SETTINGS,
-            market: EXAMPLE_MARKET,
+            settings: EXAMPLE_SETTINGS.to_vec(),
+            market: EXAMPLE_MARKET.to_vec(),
         }
     }
 }
 
-/// Five words: that it is a quote, symbol bytes in hexadecimal (a dash for none), bid, offer and
-/// resting, settings, market.
+/// Five words: that it is a quote, symbol bytes in hexadecimal, bid, offer and resting, settings,
+/// market. A dash stands for an empty slice.
 impl fmt::Display for Quote {
     fn fmt(&self, f: &mut fmt::Formatter) -> fmt::Result {
         write!(
@@ -52,8 +53,8 @@ impl fmt::Display for Quote {
             "{QUOTE} {} {} {} {}",
             hexadecimal(&self.symbol),
             list(&[self.bid, self.offer, self.resting]),
-            list(&self.settings.numbers()),
-            list(&self.market.numbers())
+            list(&self.settings),
+            list(&self.market)
         )
     }
 }
@@ -66,14 +67,14 @@ impl FromStr for Quote {
         let [QUOTE, symbol, quote, settings, market] = words[..] else {
             return Err(format!("not '{QUOTE}' and four words: {line}"));
         };
-        let [bid, offer, resting] = numbers(quote)?;
+        let [bid, offer, resting] = just(quote)?;
         Ok(Quote {
             symbol: bytes(symbol)?,
             bid,
             offer,
             resting,
-            settings: Settings::of_numbers(numbers(settings)?),
-            market: Market::of_numbers(numbers(market)?),
+            settings: numbers(settings)?,
+            market: numbers(market)?,
         })
     }
 }

@@ -7,15 +7,16 @@
 //! no rule of its own: the own price, put in its place, always equals itself.
 
 use crate::{
-    arrival::{Market, Settings, HALT, PRE_OPENING},
     checks::{self, Order, Seen},
     class::DEBIT,
     legs::Leg,
+    numbers::{ACCEPTED, BAD_MARKET, BAD_SETTING, BAD_SYMBOL, NOT_21_BYTES},
     order::{lowest, market_is_within_limits, settings_are_within_limits},
     osi,
     quote::{Quote, QuoteAnswer},
     shape::Shape,
-    Parts, ACCEPTED, BAD_SYMBOL, NOT_21_BYTES,
+    slices::{market::*, setting::*},
+    Parts,
 };
 
 const LARGEST_QUOTE: u64 = 1_000_000_000;
@@ -25,11 +26,7 @@ pub fn check(quote: &Quote) -> QuoteAnswer {
     if let Some(number) = lowest(&refusals(quote, read.number)) {
         return QuoteAnswer { number, cancel: 0 };
     }
-    let switched = rejections(quote, &read.parts).map(|(number, rejects)| {
-        let switch = quote.settings.switches[number as usize - 20];
-        (number, rejects && switch != 0)
-    });
-    match lowest(&switched) {
+    match lowest(&rejections(quote, &read.parts)) {
         None => QuoteAnswer {
             number: ACCEPTED,
             cancel: 0,
@@ -47,18 +44,19 @@ fn refusals(quote: &Quote, read: u64) -> [(u64, bool); 5] {
     let inside = limits.contains(&quote.bid) && limits.contains(&quote.offer);
     [
         (11, !inside || quote.bid >= quote.offer),
-        (10, !market_is_within_limits(&quote.market)),
-        (9, !settings_are_within_limits(&quote.settings)),
+        (BAD_MARKET, !market_is_within_limits(&quote.market)),
+        (BAD_SETTING, !settings_are_within_limits(&quote.settings)),
         (BAD_SYMBOL, read == BAD_SYMBOL),
         (NOT_21_BYTES, read == NOT_21_BYTES),
     ]
 }
 
-/// Every check with whether it would reject the quote, were it on.
+/// Every check with whether it is on and rejects the quote.
 fn rejections(quote: &Quote, parts: &Parts) -> [(u64, bool); 3] {
     let checks = checks::all(&purchase(quote, parts), &quote.settings, &quote.market);
     let [put_strike, call_underlying, ..] = checks;
-    [put_strike, call_underlying, (26, inversion(quote))]
+    let inverted = quote.settings[CHECK_26] != 0 && inversion(quote);
+    [put_strike, call_underlying, (26, inverted)]
 }
 
 /// The bid as a simple limit order.
@@ -76,11 +74,7 @@ fn purchase(quote: &Quote, parts: &Parts) -> Order {
 }
 
 fn inversion(quote: &Quote) -> bool {
-    let Market {
-        phase,
-        open_elsewhere,
-        ..
-    } = quote.market;
+    let (phase, open_elsewhere) = (quote.market[PHASE], quote.market[OPEN_ELSEWHERE]);
     if phase == HALT || phase == PRE_OPENING && open_elsewhere == 0 {
         return false;
     }
@@ -92,13 +86,13 @@ fn inversion(quote: &Quote) -> bool {
 }
 
 /// The lowest price that 26 rejects, as that side sees it; none if nothing is there to compare with.
-fn first_rejected(settings: &Settings, seen: &Seen) -> Option<i128> {
+fn first_rejected(settings: &[u64], seen: &Seen) -> Option<i128> {
     let compared = if seen.nbbo_is_unreliable() {
         seen.own_far
     } else {
         seen.far
     };
-    let beyond = i128::from(settings.set_ticks) * checks::tick(settings, compared) + 1;
+    let beyond = i128::from(settings[SET_TICKS]) * checks::tick(settings, compared) + 1;
     match () {
         () if compared == 0 => None,
         () if compared == seen.own_far => Some(compared + beyond),
@@ -116,17 +110,12 @@ mod tests {
 
     /// Document 01's words on 26, for the bid and then for the offer.
     fn to_the_letter(quote: &Quote) -> bool {
-        let Market {
-            nbb,
-            nbo,
-            own_bid,
-            own_offer,
-            ..
-        } = quote.market;
-        let (set, bid, offer) = (quote.settings.set_ticks, quote.bid, quote.offer);
+        let [nbb, nbo, own_bid, own_offer] =
+            [NBB, NBO, OWN_BID, OWN_OFFER].map(|at| quote.market[at]);
+        let (set, bid, offer) = (quote.settings[SET_TICKS], quote.bid, quote.offer);
         let tick = |price| match price {
-            0..=2_999 => quote.settings.tick_below_3000,
-            _ => quote.settings.tick_from_3000,
+            0..=2_999 => quote.settings[TICK_BELOW_3000],
+            _ => quote.settings[TICK_FROM_3000],
         };
         let unavailable = nbb == 0 && nbo == 0;
         let locked = nbb == nbo && nbb != 0;
@@ -162,17 +151,14 @@ mod tests {
                 _ => low + random.between(1, 9),
             };
             let mut quote = Quote::new(b"", 0, 0);
-            quote.market.nbb = price(&mut random);
-            quote.market.nbo = price(&mut random);
-            quote.market.own_bid = price(&mut random);
-            quote.market.own_offer = price(&mut random);
+            quote.market[NBB..=OWN_OFFER].fill_with(|| price(&mut random));
             (quote.bid, quote.offer) = (low + random.between(1, 9), low + random.between(1, 12));
-            quote.settings.set_ticks = random.between(0, 2);
-            quote.settings.tick_below_3000 = random.between(1, 2);
-            quote.settings.tick_from_3000 = random.between(1, 3);
-            let phase = random.between(0, 2);
-            (quote.market.phase, quote.market.open_elsewhere) = (phase, random.between(0, 1));
-            let applies = phase == 1 || phase == 0 && quote.market.open_elsewhere == 1;
+            quote.settings[SET_TICKS] = random.between(0, 2);
+            quote.settings[TICK_BELOW_3000] = random.between(1, 2);
+            quote.settings[TICK_FROM_3000] = random.between(1, 3);
+            let (phase, open_elsewhere) = (random.between(0, 2), random.between(0, 1));
+            (quote.market[PHASE], quote.market[OPEN_ELSEWHERE]) = (phase, open_elsewhere);
+            let applies = phase == OPEN || phase == PRE_OPENING && open_elsewhere == 1;
             let expected = applies && to_the_letter(&quote);
             assert_eq!(inversion(&quote), expected, "{quote}");
             rejected += u64::from(expected);
@@ -183,13 +169,13 @@ mod tests {
     #[test]
     fn lowest_number_first() {
         let mut quote = Quote::new(&put(160_318, 18_000).symbol(), 18_000, 18_001);
-        quote.market.nbo = 18_000;
+        quote.market[NBO] = 18_000;
         quote.resting = 7;
         let answer = |number, cancel| QuoteAnswer { number, cancel };
         assert_eq!(check(&quote), answer(20, 1));
-        quote.settings.switches[0] = 0;
+        quote.settings[CHECK_20] = 0;
         assert_eq!(check(&quote), answer(26, 1));
-        quote.market.underlying = 18_000;
+        quote.market[UNDERLYING] = 18_000;
         quote.symbol = call(160_318, 18_000).symbol().to_vec();
         assert_eq!(check(&quote), answer(21, 1));
         quote.offer = 18_000;

@@ -3,18 +3,15 @@
 
 use crate::{
     case::Case,
+    limits::wrong_lengths,
+    numbers::{self, Of},
     random::{self, Random, SEED_VARIABLE},
+    slices::{market, setting},
 };
 use std::collections::BTreeMap;
 
 /// The environment variable that holds one case as a line of text, for the test `replay`.
 pub const CASE_VARIABLE: &str = "COMPARE_CASE";
-
-/// The numbers that the order check can give.
-pub const NUMBERS: [u64; 16] = [0, 1, 3, 4, 5, 6, 7, 8, 9, 10, 20, 21, 22, 23, 24, 25];
-
-/// The numbers that the quote check can give.
-const QUOTE_NUMBERS: [u64; 9] = [0, 1, 4, 9, 10, 11, 20, 21, 26];
 
 pub type Counts = BTreeMap<u64, u64>;
 
@@ -26,6 +23,20 @@ pub struct Seen {
     pub shapes: Counts,
     pub pairings: Counts,
     pub cancels: Counts,
+    /// Wrong lengths alone.
+    pub settings: Counts,
+    pub market: Counts,
+}
+
+impl Seen {
+    pub fn count_lengths(&mut self, settings: &[u64], market: &[u64]) {
+        if settings.len() != setting::LENGTH {
+            *self.settings.entry(settings.len() as u64).or_default() += 1;
+        }
+        if market.len() != market::LENGTH {
+            *self.market.entry(market.len() as u64).or_default() += 1;
+        }
+    }
 }
 
 pub struct Run {
@@ -60,7 +71,7 @@ impl Run {
             self.difference(case, answer, expected, found_by);
         }
         self.comparisons += 1;
-        C::count(&answer, &mut self.seen);
+        case.count(&answer, &mut self.seen);
         answer
     }
 
@@ -119,21 +130,31 @@ to run it again, in compare/:
     }
 
     /// Fails unless each of some numbers, every class and every shape were given at least so often,
-    /// and every number of pairings that 16 legs can make a tenth of that: a run that tries nothing
-    /// must not pass.
+    /// and every number of pairings that 16 legs can make a tenth of that, as often as settings and
+    /// market of each wrong length were lent: a run that tries nothing must not pass.
     pub fn require(&self, numbers: &[u64], least: u64) {
         let seen = &self.seen;
         self.given_each("number", &seen.numbers, numbers.iter().copied(), least);
         self.given_each("class", &seen.classes, 0..=2, least);
         self.given_each("shape", &seen.shapes, 0..=4, least);
         self.given_each("pairings", &seen.pairings, 0..=15, least / 10);
+        self.lent_each(least / 10);
     }
 
     /// The same for quotes: each number that they can get, and both values of the cancel flag.
     pub fn require_of_quotes(&self, least: u64) {
         let seen = &self.seen;
-        self.given_each("number", &seen.numbers, QUOTE_NUMBERS, least);
+        self.given_each("number", &seen.numbers, numbers::of(Of::Quote), least);
         self.given_each("cancel", &seen.cancels, 0..=1, least);
+        self.lent_each(least / 10);
+    }
+
+    fn lent_each(&self, least: u64) {
+        let [settings, market] = [setting::LENGTH, market::LENGTH]
+            .map(|right| wrong_lengths(right).map(|length| length as u64));
+        let seen = &self.seen;
+        self.given_each("settings", &seen.settings, settings, least);
+        self.given_each("market", &seen.market, market, least);
     }
 
     fn given_each(

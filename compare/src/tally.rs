@@ -4,20 +4,18 @@
 
 use crate::{
     arrival::{Answer, Arrival},
+    numbers::{kind, Kind, BAD_TALLY},
     order,
-    text::{list, numbers},
-    ACCEPTED,
+    text::{just, list},
 };
 use std::{fmt, str::FromStr};
 
 /// The first word of a line that holds a tallied check.
 pub const TALLIED: &str = "tallied";
 
-/// The number of a tally that is full or does not add up.
-const BAD_TALLY: u64 = 12;
-
 const MOST_SEEN: i128 = 1_000_000;
 
+#[repr(C)]
 #[derive(Clone, Copy, Debug, Default, PartialEq, Eq)]
 pub struct Tally {
     pub seen: u64,
@@ -54,12 +52,11 @@ pub fn add(tally: Tally, answer: Answer) -> TalliedAnswer {
             tally,
         };
     }
-    let kind = match answer.number {
-        ACCEPTED => 1,
-        20.. => 2, // checks; no refusal of an order is above 12
-        _ => 0,
-    };
-    kinds[kind] += 1;
+    kinds[match kind(answer.number) {
+        Kind::Refused => 0,
+        Kind::Accepted => 1,
+        Kind::Rejected => 2,
+    }] += 1;
     let [refused, accepted, rejected] = kinds.map(|times| times as u64);
     TalliedAnswer {
         answer,
@@ -105,7 +102,7 @@ impl FromStr for Tallied {
         };
         Ok(Tallied {
             arrival: arrival.parse()?,
-            tally: Tally::of_numbers(numbers(tally)?),
+            tally: Tally::of_numbers(just(tally)?),
         })
     }
 }

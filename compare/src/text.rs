@@ -21,15 +21,26 @@ pub fn bytes(word: &str) -> Result<Vec<u8>, String> {
         .collect())
 }
 
-/// With commas between them.
+/// With commas between them; a dash for none.
 pub fn list(numbers: &[u64]) -> String {
+    if numbers.is_empty() {
+        return "-".to_string();
+    }
     let words: Vec<String> = numbers.iter().map(u64::to_string).collect();
     words.join(",")
 }
 
-pub fn numbers<const N: usize>(word: &str) -> Result<[u64; N], String> {
+pub fn numbers(word: &str) -> Result<Vec<u64>, String> {
+    if word == "-" {
+        return Ok(Vec::new());
+    }
     let numbers: Result<Vec<u64>, _> = word.split(',').map(str::parse).collect();
-    let numbers = numbers.map_err(|_| format!("numbers {word}"))?;
+    numbers.map_err(|_| format!("numbers {word}"))
+}
+
+/// Just so many numbers.
+pub fn just<const N: usize>(word: &str) -> Result<[u64; N], String> {
+    let numbers = numbers(word)?;
     numbers
         .try_into()
         .map_err(|_| format!("not {N} numbers: {word}"))

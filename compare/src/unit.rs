@@ -32,40 +32,31 @@ extern "C" {
     ) -> u64;
 }
 
-/// Declares an entry that takes settings and a market, number by number, between other arguments,
-/// and calls it.
+/// Declares an entry that takes settings and a market between other arguments, and calls it.
 macro_rules! call {
-    ($entry:ident, $case:expr, [$($before:tt)*], [$($lent:tt)*]) => {
-        call!(
-            @ $entry, $case, [$($before)*],
-            [
-                switch_20 switch_21 switch_22 switch_23 switch_24 switch_25 switch_26
-                tick_below_3000 tick_from_3000 net_increment
-                atd_below_1000 atd_to_2999 atd_to_9999 atd_from_10000
-                percentage preset_minimum preset_maximum set_ticks adjusted european
-            ],
-            [
-                phase open_elsewhere extended_hours
-                underlying nbb nbo own_bid own_offer close
-            ],
-            [$($lent)*]
-        )
-    };
     (
-        @ $entry:ident, $case:expr, [$($before:ident: $type:ty = $value:expr),* $(,)?],
-        [$($setting:ident)*], [$($market:ident)*], [$($lent:ident: $number:expr),* $(,)?]
+        $entry:ident, $case:expr, [$($before:ident: $type:ty = $value:expr),* $(,)?],
+        [$($lent:ident: $number:expr),* $(,)?]
     ) => {{
         extern "C" {
             fn $entry(
                 $($before: $type,)*
-                $($setting: u64,)*
-                $($market: u64,)*
+                settings: *const u64,
+                settings_len: usize,
+                market: *const u64,
+                market_len: usize,
                 $($lent: &mut u64),*
             ) -> u64;
         }
-        let [$($setting),*] = $case.settings.numbers();
-        let [$($market),*] = $case.market.numbers();
-        $entry($($value,)* $($setting,)* $($market,)* $(&mut $number),*)
+        let (settings, market) = (&$case.settings, &$case.market);
+        $entry(
+            $($value,)*
+            settings.as_ptr(),
+            settings.len(),
+            market.as_ptr(),
+            market.len(),
+            $(&mut $number),*
+        )
     }};
 }
 
@@ -151,7 +142,7 @@ pub fn write(parts: &Parts, out: &mut [u8]) -> Written {
 
 pub fn check_order(arrival: &Arrival) -> Answer {
     // SAFETY: each pointer is valid for its length, and the lent numbers are apart from each other
-    // and from the bytes.
+    // and from the slices.
     unsafe { call_order!(opc_check_order, arrival, []) }
 }
 
@@ -174,7 +165,7 @@ pub fn check_order_tallied(tallied: &Tallied) -> TalliedAnswer {
 
 pub fn check_quote(quote: &Quote) -> QuoteAnswer {
     let mut cancel = UNSET;
-    // SAFETY: the pointer is valid for its length, and the lent number is apart from the bytes.
+    // SAFETY: each pointer is valid for its length, and the lent number is apart from the slices.
     let number = unsafe {
         call!(
             opc_check_quote, quote,

@@ -10,6 +10,7 @@ use compare::{
     random::Random,
     run::Run,
     series::{call, put},
+    slices::setting::*,
 };
 
 const RANDOM_LISTS: u64 = 1_000_000;
@@ -55,9 +56,9 @@ fn random_legs(random: &mut Random) -> Vec<RawLeg> {
 fn random_arrival(random: &mut Random, legs: &[RawLeg]) -> Arrival {
     let price = *random.pick(&[-20_000, -1_000, -1, 0, 1, 1_000, 20_000]);
     let mut arrival = Arrival::limit(legs, price);
-    arrival.settings.european = u64::from(random.index(3) == 0);
+    arrival.settings[EUROPEAN] = u64::from(random.index(3) == 0);
     if random.index(2) == 0 {
-        arrival.settings.switches = [0; 7];
+        arrival.settings[CHECK_20..=CHECK_26].fill(0);
     }
     if random.index(8) == 0 {
         damage(random, &mut arrival);
@@ -86,9 +87,9 @@ fn alphabet(counts: &[i64]) -> Vec<RawLeg> {
 
 /// Puts a list of legs to both, European and not.
 fn compare(run: &mut Run, legs: &[RawLeg]) {
+    let mut arrival = Arrival::limit(legs, -1_000);
     for european in [0, 1] {
-        let mut arrival = Arrival::limit(legs, -1_000);
-        arrival.settings.european = european;
+        arrival.settings[EUROPEAN] = european;
         let expected: Answer = order::check_by_contracts(&arrival);
         run.expect(&arrival, expected, "contract by contract");
     }

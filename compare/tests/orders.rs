@@ -5,8 +5,9 @@
 use compare::{
     arrival::Arrival,
     generate::{arrival, shuffle},
+    numbers::{self, Of},
     random::Random,
-    run::{Run, NUMBERS},
+    run::Run,
 };
 
 const COMPARISONS: u64 = 2_000_000;
@@ -29,7 +30,7 @@ fn both_give_the_same_answers() {
     }
     run.report();
     println!("orders: {rearranged} of them also in another sequence of legs");
-    run.require(&NUMBERS, LEAST_OF_EACH);
+    run.require(&numbers::of(Of::Order), LEAST_OF_EACH);
     assert!(rearranged >= COMPARISONS / 20);
 }
 

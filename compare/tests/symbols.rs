@@ -2,8 +2,12 @@
 //! (right): every answer and every byte of the buffers, and that reading and writing undo each
 //! other.
 
-use compare::random::{self, Random, SEED_VARIABLE};
-use compare::{osi, unit, Parts, ACCEPTED, BAD_SYMBOL, NOT_21_BYTES, SHORT_BUFFER, SYMBOL_LENGTH};
+use compare::{
+    numbers::{self, Of, ACCEPTED},
+    osi,
+    random::{self, Random, SEED_VARIABLE},
+    unit, Parts, SYMBOL_LENGTH,
+};
 use std::collections::BTreeMap;
 
 const LEAST_COMPARISONS: u64 = 1_000_000;
@@ -105,7 +109,7 @@ impl Run {
             println!("symbols: number {number} given {times} times");
         }
         assert!(total >= LEAST_COMPARISONS);
-        for number in [ACCEPTED, NOT_21_BYTES, SHORT_BUFFER, BAD_SYMBOL] {
+        for number in numbers::of(Of::Symbol) {
             let times = self.seen.get(&number).copied().unwrap_or(0);
             assert!(times >= LEAST_OF_EACH_NUMBER, "number {number}: {times}");
         }

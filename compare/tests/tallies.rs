@@ -5,9 +5,12 @@
 use compare::{
     arrival::{Answer, Arrival},
     generate::arrival,
+    limits::every_length,
+    numbers::{self, kind, Kind, Of, BAD_TALLY},
     order,
     random::Random,
-    run::{Run, NUMBERS},
+    run::Run,
+    slices::{market, setting},
     tally::{self, Tallied, TalliedAnswer, Tally},
     unit,
 };
@@ -15,7 +18,7 @@ use std::collections::BTreeMap;
 
 const LIMIT: u64 = 1_000_000;
 
-const REFUSED: Answer = Answer::refusal(12);
+const REFUSED: Answer = Answer::refusal(BAD_TALLY);
 
 /// A list of tallied checks from some tally that adds up, and what was counted beside it.
 struct List {
@@ -35,12 +38,14 @@ impl List {
         }
     }
 
-    /// One more check, held to the second implementation and to the check without a tally.
-    fn put(&mut self, run: &mut Run, arrival: Arrival) {
+    /// One more check, held to the second implementation and to the check without a tally, whose
+    /// answer is given.
+    fn put(&mut self, run: &mut Run, arrival: Arrival) -> Answer {
         let plain = unit::check_order(&arrival);
         let tally = self.tally;
         let answer = run.compare(&Tallied { arrival, tally });
         self.count(plain, answer);
+        plain
     }
 
     fn count(&mut self, plain: Answer, answer: TalliedAnswer) {
@@ -57,16 +62,17 @@ impl List {
 
     /// Holds the tally to what was counted.
     fn finish(&self) {
-        let given = |numbers: &[u64]| -> u64 {
-            let times = |number| self.numbers.get(number).copied().unwrap_or(0);
-            numbers.iter().map(times).sum()
+        let given = |of: Kind| -> u64 {
+            let numbers = self.numbers.iter();
+            let numbers = numbers.filter(|(&number, _)| kind(number) == of);
+            numbers.map(|(_, times)| times).sum()
         };
         let all: u64 = self.numbers.values().sum();
         let expected = Tally {
             seen: self.start.seen + all,
-            refused: self.start.refused + given(&[1, 3, 4, 5, 6, 7, 8, 9, 10]),
-            accepted: self.start.accepted + given(&[0]),
-            rejected: self.start.rejected + given(&[20, 21, 22, 23, 24, 25]),
+            refused: self.start.refused + given(Kind::Refused),
+            accepted: self.start.accepted + given(Kind::Accepted),
+            rejected: self.start.rejected + given(Kind::Rejected),
         };
         assert_eq!(self.tally, expected, "{:?}", self.numbers);
     }
@@ -95,8 +101,8 @@ fn lists_from_a_fresh_tally() {
     }
     run.report();
     println!("tallied lists: {strays} checks with a broken tally among {lengths}");
-    run.require(&NUMBERS, 100);
-    assert_eq!(run.given(12), strays);
+    run.require(&numbers::of(Of::Order), 100);
+    assert_eq!(run.given(BAD_TALLY), strays);
     assert!(lengths > 150_000 && strays > 15_000);
 }
 
@@ -138,7 +144,7 @@ fn lists_across_the_limit() {
     }
     run.report();
     assert_eq!(run.comparisons, 20_000);
-    assert!(run.given(12) > 10_000 && run.given(0) > 1_000);
+    assert!(run.given(BAD_TALLY) > 10_000 && run.given(0) > 1_000);
 }
 
 /// A tally that has seen so many, divided at random, at times among two kinds or one.
@@ -166,10 +172,10 @@ fn rotated(random: &mut Random, seen: u64, mut kinds: [u64; 3]) -> Tally {
     }
 }
 
-/// A kind of tally: whether 12 refuses it, and one of the kind.
-type Kind = (&'static str, bool, fn(&mut Random) -> Tally);
+/// A sort of tally: whether 12 refuses it, and one of the sort.
+type Sort = (&'static str, bool, fn(&mut Random) -> Tally);
 
-const KINDS: [Kind; 20] = [
+const SORTS: [Sort; 20] = [
     ("fresh", false, |_| Tally::default()),
     ("adds up", false, |random| any_adding_up(random, 0)),
     ("one left", false, |random| adding_up(random, LIMIT - 1)),
@@ -260,12 +266,12 @@ fn right_modulo_the_word(random: &mut Random) -> Tally {
     rotated(random, seen, [one, other, last])
 }
 
-/// Tallies of every kind, with arrivals of every kind: 12 comes before every other number.
+/// Tallies of every sort, with arrivals of every sort: 12 comes before every other number.
 #[test]
-fn tallies_of_every_kind() {
+fn tallies_of_every_sort() {
     let mut run = Run::new("tallies");
     for _ in 0..5_000 {
-        for (name, wrong, make) in KINDS {
+        for (name, wrong, make) in SORTS {
             let tallied = Tallied {
                 arrival: arrival(&mut run.random),
                 tally: make(&mut run.random),
@@ -281,9 +287,31 @@ fn tallies_of_every_kind() {
         }
     }
     run.report();
-    let wrong = KINDS.iter().filter(|(_, wrong, _)| *wrong).count() as u64;
-    assert_eq!(run.comparisons, 5_000 * KINDS.len() as u64);
-    assert_eq!(run.given(12), 5_000 * wrong);
+    let wrong = SORTS.iter().filter(|(_, wrong, _)| *wrong).count() as u64;
+    assert_eq!(run.comparisons, 5_000 * SORTS.len() as u64);
+    assert_eq!(run.given(BAD_TALLY), 5_000 * wrong);
+}
+
+/// Settings and market of any length, among refusals of every other sort.
+#[test]
+fn lengths_of_settings_and_market() {
+    let mut run = Run::new("tallied lengths");
+    for _ in 0..400 {
+        let mut list = List::from(Tally::default());
+        let mut arrival = arrival(&mut run.random);
+        arrival.settings.resize(setting::LENGTH, 1);
+        arrival.market.resize(market::LENGTH, 1);
+        let number = order::check(&arrival).number;
+        for (settings, market, number) in every_length(number) {
+            let mut other = arrival.clone();
+            other.settings.resize(settings, 1);
+            other.market.resize(market, 1);
+            put_broken(&mut run, &other, list.tally);
+            assert_eq!(list.put(&mut run, other).number, number);
+        }
+        list.finish();
+    }
+    run.finish(&[9, 10, 12], 400 * 80 * 2);
 }
 
 /// One list of a million checks from a fresh tally, and beyond. The arrivals are few, so the second
@@ -306,7 +334,7 @@ fn one_list_to_the_limit() {
     run.report();
     println!("to the limit: {:?}", list.tally);
     assert_eq!((list.tally.seen, list.refused_by_12), (LIMIT, BEYOND));
-    for number in NUMBERS {
+    for number in numbers::of(Of::Order) {
         assert!(run.given(number) > 10_000, "number {number}");
     }
 }
@@ -322,7 +350,8 @@ fn one_of_each_number(random: &mut Random) -> Vec<(Tallied, Answer)> {
             shortest.insert(answer.number, (arrival, answer));
         }
     }
-    assert_eq!(shortest.len(), NUMBERS.len());
+    let numbers: Vec<u64> = shortest.keys().copied().collect();
+    assert_eq!(numbers, numbers::of(Of::Order));
     let tally = Tally::default();
     let tallied = |(arrival, answer)| (Tallied { arrival, tally }, answer);
     shortest.into_values().map(tallied).collect()

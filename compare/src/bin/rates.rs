@@ -5,11 +5,12 @@
 //! there as a measure of the machine.
 
 use compare::{
-    arrival::{Answer, Arrival, EXAMPLE_SETTINGS},
+    arrival::{Answer, Arrival},
     generate::{legs_of, list_of},
+    numbers::{kind, Kind},
     order,
     random::Random,
-    unit, ACCEPTED,
+    unit,
 };
 use std::{hint::black_box, time::Instant};
 
@@ -34,9 +35,8 @@ fn valid_order(random: &mut Random, legs: usize) -> Arrival {
         let draft = list_of(random, legs);
         let price = draft[0].1.signum() * 1_000;
         let arrival = Arrival::limit(&legs_of(&draft), price);
-        assert_eq!(arrival.settings, EXAMPLE_SETTINGS);
         let number = order::check(&arrival).number;
-        if draft.len() == legs && (number == ACCEPTED || number >= 20) {
+        if draft.len() == legs && kind(number) != Kind::Refused {
             return arrival;
         }
     }

@@ -2,8 +2,10 @@
 
 use super::legs::ROOTS;
 use crate::{
-    arrival::{Arrival, Market, Settings},
+    arrival::Arrival,
+    limits::wrong_lengths,
     random::Random,
+    slices::{market, setting},
 };
 
 /// Makes one thing wrong, or perhaps just unusual.
@@ -54,14 +56,24 @@ fn damage_lengths(random: &mut Random, arrival: &mut Arrival) {
     }
 }
 
-pub fn damage_settings(random: &mut Random, settings: &mut Settings) {
-    let place = 7 + random.index(11); // not the switches, adjusted and European
+pub fn damage_settings(random: &mut Random, settings: &mut Vec<u64>) {
+    let limited = setting::SET_TICKS - setting::TICK_BELOW_3000 + 1;
+    let place = setting::TICK_BELOW_3000 + random.index(limited);
     let value = *random.pick(&[0, 1, 2, 1_000, 1_001, 10_001, 1_000_001, u64::MAX]);
-    *settings = settings.with(place, value);
+    damage_numbers(random, settings, setting::LENGTH, (place, value));
 }
 
-pub fn damage_market(random: &mut Random, market: &mut Market) {
-    let place = random.index(market.numbers().len());
+pub fn damage_market(random: &mut Random, market: &mut Vec<u64>) {
+    let place = random.index(market::LENGTH);
     let value = *random.pick(&[0, 1, 2, 3, 1_000_000_000, 1_000_000_001, u64::MAX]);
-    *market = market.with(place, value);
+    damage_numbers(random, market, market::LENGTH, (place, value));
+}
+
+/// Puts a value at a place, or gives the slice another length, with the value at what is new.
+fn damage_numbers(random: &mut Random, numbers: &mut Vec<u64>, right: usize, at: (usize, u64)) {
+    let (place, value) = at;
+    match numbers.get_mut(place) {
+        Some(number) if random.index(4) != 0 => *number = value,
+        _ => numbers.resize(*random.pick(&wrong_lengths(right)), value),
+    }
 }

@@ -7,10 +7,10 @@ use super::{
     values,
 };
 use crate::{
-    arrival::{Market, Settings},
     checks,
     quote::Quote,
     random::Random,
+    slices::{market::*, setting::*},
 };
 
 const LARGEST: i128 = 1_000_000_000;
@@ -21,14 +21,14 @@ pub fn quote(random: &mut Random) -> Quote {
     let (series, _) = draft[0];
     let mut settings = values::settings(random);
     if random.index(4) == 0 {
-        settings.set_ticks = random.between(0, 5);
+        settings[SET_TICKS] = random.between(0, 5);
     }
     let mut market = values::market(random, &draft);
     if random.index(2) == 0 {
-        market.own_bid = market.nbb;
+        market[OWN_BID] = market[NBB];
     }
     if random.index(2) == 0 {
-        market.own_offer = market.nbo;
+        market[OWN_OFFER] = market[NBO];
     }
     let (bid, offer) = prices(random, series.strike, &settings, &market);
     let mut quote = Quote {
@@ -47,7 +47,7 @@ pub fn quote(random: &mut Random) -> Quote {
 }
 
 /// Bid and offer: one of them at a limit and the other not far away, or both at limits.
-fn prices(random: &mut Random, strike: u64, settings: &Settings, market: &Market) -> (u64, u64) {
+fn prices(random: &mut Random, strike: u64, settings: &[u64], market: &[u64]) -> (u64, u64) {
     let limits = limits(strike, settings, market);
     let limit = |random: &mut Random| random.pick(&limits) + *random.pick(&[-1, 0, 0, 1]);
     let apart = *random.pick(&[1, 1, 2, 5, 10, 100, 1_000, LARGEST]);
@@ -65,18 +65,10 @@ fn prices(random: &mut Random, strike: u64, settings: &Settings, market: &Market
 }
 
 /// The limits that checks draw for a quote, whichever of them apply.
-fn limits(strike: u64, settings: &Settings, market: &Market) -> Vec<i128> {
-    let Market {
-        underlying,
-        nbb,
-        nbo,
-        own_bid,
-        own_offer,
-        ..
-    } = *market;
-    let mut limits = vec![strike.into(), underlying.into()];
-    for price in [nbb, nbo, own_bid, own_offer].map(i128::from) {
-        let set = i128::from(settings.set_ticks) * checks::tick(settings, price);
+fn limits(strike: u64, settings: &[u64], market: &[u64]) -> Vec<i128> {
+    let mut limits = vec![strike.into(), market[UNDERLYING].into()];
+    for price in market[NBB..=OWN_OFFER].iter().copied().map(i128::from) {
+        let set = i128::from(settings[SET_TICKS]) * checks::tick(settings, price);
         limits.extend([price, price + set, price - set]);
     }
     limits.retain(|&limit| limit > 0);

@@ -2,9 +2,9 @@
 
 use super::{side, Draft};
 use crate::{
-    arrival::{Market, Settings, EXAMPLE_SETTINGS, OPEN},
     checks,
     random::Random,
+    slices::{market::*, setting::*, EXAMPLE_MARKET, EXAMPLE_SETTINGS},
 };
 
 /// Yes more seldom than no, and any number that means yes.
@@ -16,32 +16,32 @@ fn flag(random: &mut Random, one_in: usize) -> u64 {
 }
 
 /// Settings within their limits.
-pub fn settings(random: &mut Random) -> Settings {
-    let mut settings = EXAMPLE_SETTINGS;
-    settings.european = flag(random, 4);
+pub fn settings(random: &mut Random) -> Vec<u64> {
+    let mut settings = EXAMPLE_SETTINGS.to_vec();
+    settings[EUROPEAN] = flag(random, 4);
     if random.index(4) == 0 {
         return settings;
     }
     if random.index(2) == 0 {
         let off = |random: &mut Random| u64::from(random.index(4) != 0);
-        settings.switches = [0; 7].map(|_| off(random) * flag(random, 8).max(1));
+        settings[CHECK_20..=CHECK_26].fill_with(|| off(random) * flag(random, 8).max(1));
     }
     let increment = |random: &mut Random| pick_or(random, &[1, 5, 10, 50, 100, 999, 1_000], 1_000);
-    settings.tick_below_3000 = increment(random);
-    settings.tick_from_3000 = increment(random);
-    settings.net_increment = increment(random);
+    settings[TICK_BELOW_3000] = increment(random);
+    settings[TICK_FROM_3000] = increment(random);
+    settings[NET_INCREMENT] = increment(random);
     let distance = |random: &mut Random| pick_or(random, &[2, 3, 5, 10, 1_000], 1_000);
-    settings.distances = [0; 4].map(|_| distance(random).max(2));
-    settings.percentage = pick_or(random, &[0, 1, 300, 500, 9_999, 10_000], 10_000);
+    settings[ATD_BELOW_1000..=ATD_FROM_10000].fill_with(|| distance(random).max(2));
+    settings[PERCENTAGE] = pick_or(random, &[0, 1, 300, 500, 9_999, 10_000], 10_000);
     let presets = [0, 1, 50, 600, 999_999, 1_000_000];
     let (one, other) = (
         pick_or(random, &presets, 1_000_000),
         pick_or(random, &presets, 5_000),
     );
-    settings.preset_minimum = one.min(other);
-    settings.preset_maximum = one.max(other);
-    settings.set_ticks = pick_or(random, &[0, 1, 4, 1_000], 1_000);
-    settings.adjusted = flag(random, 8);
+    settings[PRESET_MINIMUM] = one.min(other);
+    settings[PRESET_MAXIMUM] = one.max(other);
+    settings[SET_TICKS] = pick_or(random, &[0, 1, 4, 1_000], 1_000);
+    settings[ADJUSTED] = flag(random, 8);
     settings
 }
 
@@ -53,7 +53,7 @@ fn pick_or(random: &mut Random, likely: &[u64], most: u64) -> u64 {
 }
 
 /// A market within its limits, its prices close to each other and often around a band's limit.
-pub fn market(random: &mut Random, draft: &Draft) -> Market {
+pub fn market(random: &mut Random, draft: &Draft) -> Vec<u64> {
     let level = match random.index(10) {
         0 => random.between(1, 1_000_000_000),
         1 => 1_000_000_000,
@@ -68,17 +68,13 @@ pub fn market(random: &mut Random, draft: &Draft) -> Market {
         2 => near(random, level),
         _ => random.between(1, 200_000),
     };
-    Market {
-        phase: *random.pick(&[0, 0, OPEN, OPEN, OPEN, 2]),
-        open_elsewhere: flag(random, 2),
-        extended_hours: flag(random, 8),
-        underlying,
-        nbb: market_price(random, level),
-        nbo: market_price(random, level),
-        own_bid: market_price(random, level),
-        own_offer: market_price(random, level),
-        close: market_price(random, level),
-    }
+    let mut market = EXAMPLE_MARKET.to_vec();
+    market[PHASE] = *random.pick(&[PRE_OPENING, PRE_OPENING, OPEN, OPEN, OPEN, HALT]);
+    market[OPEN_ELSEWHERE] = flag(random, 2);
+    market[EXTENDED_HOURS] = flag(random, 8);
+    market[UNDERLYING] = underlying;
+    market[NBB..=CLOSE].fill_with(|| market_price(random, level));
+    market
 }
 
 fn market_price(random: &mut Random, level: u64) -> u64 {
@@ -98,7 +94,7 @@ fn near(random: &mut Random, level: u64) -> u64 {
 }
 
 /// A price at or next to a limit that some check draws for this order, or any.
-pub fn price(random: &mut Random, draft: &Draft, settings: &Settings, market: &Market) -> i64 {
+pub fn price(random: &mut Random, draft: &Draft, settings: &[u64], market: &[u64]) -> i64 {
     let size = match random.index(12) {
         0 => random.between(0, 30_000) as i128,
         1 => *random.pick(&[0, 1, 2, 1_000_000_000_000]),
@@ -114,20 +110,12 @@ pub fn price(random: &mut Random, draft: &Draft, settings: &Settings, market: &M
 }
 
 /// The limits that checks draw for an order, whichever of them apply.
-fn limits(draft: &Draft, settings: &Settings, market: &Market) -> Vec<i128> {
-    let Market {
-        nbb,
-        nbo,
-        own_bid,
-        own_offer,
-        close,
-        ..
-    } = *market;
+fn limits(draft: &Draft, settings: &[u64], market: &[u64]) -> Vec<i128> {
     let mut limits = vec![0];
     if let [(series, _)] = draft[..] {
         limits.push(series.strike.into());
-        limits.push(market.underlying.into());
-        for reference in [nbb, nbo, own_bid, own_offer, close].map(i128::from) {
+        limits.push(market[UNDERLYING].into());
+        for reference in market[NBB..=CLOSE].iter().copied().map(i128::from) {
             let distance = checks::distance(settings, reference);
             limits.extend([reference + distance, reference - distance, reference]);
         }
@@ -136,7 +124,7 @@ fn limits(draft: &Draft, settings: &Settings, market: &Market) -> Vec<i128> {
     let units = draft.iter().map(|(_, count)| i128::from(count.abs()));
     let smallest = units.clone().min().unwrap_or(1).max(1);
     let sum: i128 = units.map(|size| size / smallest).sum(); // mostly the unit counts
-    limits.push(sum * i128::from(settings.net_increment));
+    limits.push(sum * i128::from(settings[NET_INCREMENT]));
     let mut strikes: Vec<i128> = draft.iter().map(|(s, _)| s.strike.into()).collect();
     strikes.sort_unstable();
     strikes.dedup();

@@ -6,6 +6,7 @@ use compare::{
     limits::every_switching,
     run::Run,
     series::{call, put},
+    slices::{market::*, setting::*},
 };
 
 /// Kind and opening flag, and whether 20 and 21 skip such an order.
@@ -28,7 +29,7 @@ fn put_strike() {
                     let leg = put(MARCH, strike).leg(3);
                     let mut arrival = Arrival::limit(&[leg], price as i64);
                     (arrival.kind, arrival.opening) = (kind, opening);
-                    arrival.settings.switches[0] = switch;
+                    arrival.settings[CHECK_20] = switch;
                     let rejected = price >= strike && !skipped && switch != 0;
                     let number = match price {
                         0 => 8,
@@ -63,10 +64,10 @@ fn call_underlying() {
                     let leg = call(MARCH, 5_000).leg(2);
                     let mut arrival = Arrival::limit(&[leg], price as i64);
                     (arrival.kind, arrival.opening) = (kind, opening);
-                    arrival.settings.switches[1] = switch;
-                    arrival.settings.adjusted = adjusted;
-                    arrival.market.extended_hours = extended;
-                    arrival.market.underlying = underlying;
+                    arrival.settings[CHECK_21] = switch;
+                    arrival.settings[ADJUSTED] = adjusted;
+                    arrival.market[EXTENDED_HOURS] = extended;
+                    arrival.market[UNDERLYING] = underlying;
                     let applies = switch != 0 && adjusted == 0 && extended == 0 && !skipped;
                     let number = match price {
                         0 => 8,
@@ -93,9 +94,9 @@ fn hold_turned(run: &mut Run, arrival: &Arrival, side: i64) {
     let mut arrival = arrival.clone();
     for price in [0, -side, -arrival.price, -side * 1_000_000_000_000] {
         arrival.price = price;
-        arrival.settings.switches[2] = 1;
+        arrival.settings[CHECK_22] = 1;
         hold(run, &arrival, 22);
-        arrival.settings.switches[2] = 0;
+        arrival.settings[CHECK_22] = 0;
         let turned = price.signum() == -side;
         hold(run, &arrival, if turned { 23 } else { 0 });
     }
@@ -121,7 +122,7 @@ fn buy_buy_sell_sell() {
                     let counts: Vec<i64> = counts.iter().map(|count| count * side).collect();
                     let amount = units * increment + change;
                     let mut arrival = calls(&counts, amount * side);
-                    arrival.settings.net_increment = increment as u64;
+                    arrival.settings[NET_INCREMENT] = increment as u64;
                     hold(&mut run, &arrival, if change < 0 { 22 } else { 0 });
                     hold_turned(&mut run, &arrival, side);
                     arrival.kind = 1;
@@ -163,7 +164,7 @@ fn debit_credit() {
                     for legs in two_legs(side) {
                         let mut arrival = Arrival::limit(&legs, price);
                         arrival.kind = kind;
-                        arrival.settings.switches[3] = switch;
+                        arrival.settings[CHECK_23] = switch;
                         hold(&mut run, &arrival, number);
                     }
                     let mut arrival = undetermined();
@@ -226,9 +227,9 @@ fn maximum_value() {
                             let price = ((apart + allowed) as i64 + change) * side;
                             let mut arrival = Arrival::limit(&legs, price);
                             arrival.kind = kind;
-                            arrival.settings.percentage = percentage;
-                            arrival.settings.preset_minimum = minimum;
-                            arrival.settings.preset_maximum = maximum;
+                            arrival.settings[PERCENTAGE] = percentage;
+                            arrival.settings[PRESET_MINIMUM] = minimum;
+                            arrival.settings[PRESET_MAXIMUM] = maximum;
                             let rejected = has_maximum && change > 0;
                             hold(&mut run, &arrival, if rejected { 24 } else { 0 });
                         }
@@ -245,9 +246,9 @@ fn maximum_value() {
 fn lowest_check_first() {
     let mut run = Run::new("checks together");
     let mut far_put = Arrival::limit(&[put(MARCH, 18_000).leg(1)], 20_000);
-    far_put.market.nbo = 1_200;
+    far_put.market[NBO] = 1_200;
     let mut far_call = Arrival::limit(&[call(MARCH, 18_000).leg(1)], 20_000);
-    (far_call.market.nbo, far_call.market.underlying) = (1_200, 10_000);
+    (far_call.market[NBO], far_call.market[UNDERLYING]) = (1_200, 10_000);
     let vertical = [call(MARCH, 10_000).leg(1), call(MARCH, 20_000).leg(-1)];
     let orders: [(Arrival, &[u64]); 4] = [
         (far_put, &[20, 25]),
@@ -256,9 +257,9 @@ fn lowest_check_first() {
         (Arrival::limit(&vertical, -20_000), &[23, 24]),
     ];
     for (order, rejecting) in orders {
-        for (switches, number) in every_switching(rejecting) {
+        for (settings, number) in every_switching(rejecting) {
             let mut arrival = order.clone();
-            arrival.settings.switches = switches;
+            arrival.settings = settings;
             hold(&mut run, &arrival, number);
         }
     }

@@ -2,18 +2,19 @@
 
 use super::{hold, purchase, sale};
 use compare::{
-    arrival::{Arrival, Market, Settings, EXAMPLE_MARKET, EXAMPLE_SETTINGS},
+    arrival::Arrival,
     limits::every,
     run::Run,
+    slices::{market::*, setting::*, EXAMPLE_MARKET, EXAMPLE_SETTINGS},
 };
 
 /// Every band with a distance of its own, and two ticks.
-const SETTINGS: Settings = Settings {
-    tick_below_3000: 11,
-    tick_from_3000: 13,
-    distances: [2, 3, 5, 7],
-    ..EXAMPLE_SETTINGS
-};
+fn settings() -> Vec<u64> {
+    let mut settings = EXAMPLE_SETTINGS.to_vec();
+    settings[TICK_BELOW_3000..=TICK_FROM_3000].copy_from_slice(&[11, 13]);
+    settings[ATD_BELOW_1000..=ATD_FROM_10000].copy_from_slice(&[2, 3, 5, 7]);
+    settings
+}
 
 /// References around the limits of bands, with D under those settings.
 const REFERENCES: [(u64, u64); 16] = [
@@ -36,33 +37,21 @@ const REFERENCES: [(u64, u64); 16] = [
 ];
 
 /// Markets in which one side is measured from some price, the other from none: purchases first.
-fn markets(reference: u64) -> [[Market; 2]; 4] {
-    let market = |phase| Market {
-        phase,
-        ..EXAMPLE_MARKET
-    };
-    let close = |market| Market {
-        close: reference,
-        ..market
-    };
-    let nbo = |market| Market {
-        nbo: reference,
-        ..market
-    };
-    let nbb = |market| Market {
-        nbb: reference,
-        ..market
-    };
-    let elsewhere = Market {
-        open_elsewhere: 1,
-        ..market(0)
-    };
+fn markets(reference: u64) -> [[Vec<u64>; 2]; 4] {
     [
-        [close(market(0)), close(market(0))],
-        [nbo(elsewhere), nbb(elsewhere)],
-        [nbo(market(1)), nbb(market(1))],
-        [nbo(market(2)), nbb(market(2))],
+        (PRE_OPENING, 0, [CLOSE, CLOSE]),
+        (PRE_OPENING, 1, [NBO, NBB]),
+        (OPEN, 0, [NBO, NBB]),
+        (HALT, 0, [NBO, NBB]),
     ]
+    .map(|(phase, elsewhere, places)| {
+        places.map(|place| {
+            let mut market = EXAMPLE_MARKET.to_vec();
+            (market[PHASE], market[OPEN_ELSEWHERE]) = (phase, elsewhere);
+            market[place] = reference;
+            market
+        })
+    })
 }
 
 #[test]
@@ -72,15 +61,15 @@ fn every_band() {
         for [for_purchase, for_sale] in markets(reference) {
             for change in [-1, 0, 1] {
                 let mut bought = purchase();
-                bought.settings = SETTINGS;
-                bought.market = for_purchase;
+                bought.settings = settings();
+                bought.market = for_purchase.clone();
                 bought.price = (reference + distance) as i64 + change;
                 hold(&mut run, &bought, if change > 0 { 25 } else { 0 });
                 hold_the_exceptions(&mut run, &bought);
 
                 let mut sold = sale();
-                sold.settings = SETTINGS;
-                sold.market = for_sale;
+                sold.settings = settings();
+                sold.market = for_sale.clone();
                 let amount = reference as i64 - distance as i64 + change;
                 if amount > 0 {
                     sold.price = -amount;
@@ -106,7 +95,7 @@ fn hold_the_exceptions(run: &mut Run, arrival: &Arrival) {
     exceptions[0].kind = 1;
     exceptions[1].stop = 1;
     exceptions[2].manual = u64::MAX;
-    exceptions[3].settings.switches[5] = 0;
+    exceptions[3].settings[CHECK_25] = 0;
     for exception in &exceptions {
         hold(run, exception, 0);
     }
@@ -116,21 +105,18 @@ fn hold_the_exceptions(run: &mut Run, arrival: &Arrival) {
 fn largest_distance() {
     let mut run = Run::new("25 at most");
     let mut bought = purchase();
-    (
-        bought.settings.tick_below_3000,
-        bought.settings.tick_from_3000,
-    ) = (1_000, 1_000);
-    bought.settings.distances = [1_000; 4];
+    bought.settings[TICK_BELOW_3000..=TICK_FROM_3000].fill(1_000);
+    bought.settings[ATD_BELOW_1000..=ATD_FROM_10000].fill(1_000);
     for reference in [1, 2_999, 3_000, 1_000_000_000] {
-        bought.market.nbo = reference;
+        bought.market[NBO] = reference;
         for (change, number) in [(-1, 0), (0, 0), (1, 25)] {
             bought.price = reference as i64 + 1_000_000 + change;
             hold(&mut run, &bought, number);
         }
     }
     let mut sold = sale();
-    sold.settings = bought.settings;
-    sold.market.nbb = 1_000_000_000;
+    sold.settings = bought.settings.clone();
+    sold.market[NBB] = 1_000_000_000;
     for (amount, number) in [(998_999_999, 25), (999_000_000, 0), (999_000_001, 0)] {
         sold.price = -amount;
         hold(&mut run, &sold, number);
@@ -163,7 +149,7 @@ const PRE_OPENING_OTHERWISE: [Row; 3] = [
     ([0, 0, 7, 8, 900], 900, 900),
 ];
 
-const OPEN: [Row; 8] = [
+const WHEN_OPEN: [Row; 8] = [
     ([500, 600, 700, 800, 900], 600, 500),
     ([599, 600, 700, 800, 900], 600, 599),
     ([600, 600, 700, 800, 900], 800, 700),
@@ -174,7 +160,7 @@ const OPEN: [Row; 8] = [
     ([0, 600, 700, 800, 900], 600, 0),
 ];
 
-const HALT: [Row; 5] = [
+const IN_HALT: [Row; 5] = [
     ([500, 600, 700, 800, 900], 600, 500),
     ([600, 600, 700, 800, 900], 600, 600),
     ([601, 600, 700, 800, 900], 600, 601),
@@ -183,14 +169,8 @@ const HALT: [Row; 5] = [
 ];
 
 /// A market with the five prices of a row.
-fn market_of(phase: u64, open_elsewhere: u64, prices: [u64; 5]) -> Market {
-    let [best_and_own @ .., close] = prices;
-    Market {
-        phase,
-        open_elsewhere,
-        close,
-        ..EXAMPLE_MARKET.with_prices(best_and_own)
-    }
+fn market_of(phase: u64, open_elsewhere: u64, prices: [u64; 5]) -> Vec<u64> {
+    [&[phase, open_elsewhere, 0, 0], &prices[..]].concat()
 }
 
 #[test]
@@ -200,15 +180,15 @@ fn every_reference() {
         (0, 1, &PRE_OPENING_ELSEWHERE[..]),
         (0, u64::MAX, &PRE_OPENING_ELSEWHERE),
         (0, 0, &PRE_OPENING_OTHERWISE),
-        (1, 0, &OPEN),
-        (1, 1, &OPEN),
-        (2, 0, &HALT),
-        (2, 1, &HALT),
+        (1, 0, &WHEN_OPEN),
+        (1, 1, &WHEN_OPEN),
+        (2, 0, &IN_HALT),
+        (2, 1, &IN_HALT),
     ] {
         for &(prices, for_purchase, for_sale) in rows {
             let market = market_of(phase, elsewhere, prices);
-            hold_reference(&mut run, market, purchase(), for_purchase, 1);
-            hold_reference(&mut run, market, sale(), for_sale, -1);
+            hold_reference(&mut run, &market, purchase(), for_purchase, 1);
+            hold_reference(&mut run, &market, sale(), for_sale, -1);
         }
     }
     run.finish(&[0, 25], 186);
@@ -216,10 +196,10 @@ fn every_reference() {
 
 /// D is 50 in all of these. The last amount accepted and the first rejected are named; without a
 /// reference even the most extreme amount is accepted.
-fn hold_reference(run: &mut Run, market: Market, order: Arrival, reference: u64, side: i64) {
+fn hold_reference(run: &mut Run, market: &[u64], order: Arrival, reference: u64, side: i64) {
     let at = |amount: i64| Arrival {
         price: amount * side,
-        market,
+        market: market.to_vec(),
         ..order.clone()
     };
     if reference == 0 {
@@ -254,8 +234,8 @@ fn every_small_market() {
                 for amount in &amounts {
                     let arrival = Arrival {
                         price: amount * order.price.signum(),
-                        settings: SETTINGS,
-                        market,
+                        settings: settings(),
+                        market: market.clone(),
                         ..order.clone()
                     };
                     run.compare(&arrival);

@@ -6,6 +6,7 @@ use compare::{
     limits::{hold_flag, Flag},
     run::Run,
     series::{call, put},
+    slices::{market::*, setting::*},
 };
 
 /// An order whose answer depends on one number, and where that number stands.
@@ -15,7 +16,7 @@ type Flagged = (Arrival, Flag<Arrival>);
 fn far_above() -> Arrival {
     let mut arrival = purchase();
     arrival.price = 20_000;
-    arrival.market.nbo = 1_200;
+    arrival.market[NBO] = 1_200;
     arrival
 }
 
@@ -27,7 +28,7 @@ fn at_strike() -> Arrival {
 /// A purchase that 21 rejects, at the underlying's value.
 fn at_underlying() -> Arrival {
     let mut arrival = purchase();
-    arrival.market.underlying = 1_000;
+    arrival.market[UNDERLYING] = 1_000;
     arrival
 }
 
@@ -44,31 +45,31 @@ fn flags() -> Vec<Flagged> {
     };
     let calendar = [call(MARCH, 20_000).leg(1), call(MARCH + 1, 20_000).leg(-1)];
     let mut before_opening = far_above();
-    before_opening.market.phase = 0;
+    before_opening.market[PHASE] = 0;
     vec![
         (far_above(), |arrival| &mut arrival.kind),
         (far_above(), |arrival| &mut arrival.stop),
         (far_above(), |arrival| &mut arrival.manual),
         (market_order, |arrival| &mut arrival.opening),
-        (at_strike(), |arrival| &mut arrival.settings.switches[0]),
-        (at_underlying(), |arrival| &mut arrival.settings.switches[1]),
-        (calls([1, 1], 0), |arrival| {
-            &mut arrival.settings.switches[2]
-        }),
+        (at_strike(), |arrival| &mut arrival.settings[CHECK_20]),
+        (at_underlying(), |arrival| &mut arrival.settings[CHECK_21]),
+        (calls([1, 1], 0), |arrival| &mut arrival.settings[CHECK_22]),
         (calls([1, -1], -1), |arrival| {
-            &mut arrival.settings.switches[3]
+            &mut arrival.settings[CHECK_23]
         }),
         (calls([1, -1], 20_000), |arrival| {
-            &mut arrival.settings.switches[4]
+            &mut arrival.settings[CHECK_24]
         }),
-        (far_above(), |arrival| &mut arrival.settings.switches[5]),
-        (at_underlying(), |arrival| &mut arrival.settings.adjusted),
+        (far_above(), |arrival| &mut arrival.settings[CHECK_25]),
+        (at_underlying(), |arrival| &mut arrival.settings[ADJUSTED]),
         (Arrival::limit(&calendar, 1), |arrival| {
-            &mut arrival.settings.european
+            &mut arrival.settings[EUROPEAN]
         }),
-        (before_opening, |arrival| &mut arrival.market.open_elsewhere),
+        (before_opening, |arrival| {
+            &mut arrival.market[OPEN_ELSEWHERE]
+        }),
         (at_underlying(), |arrival| {
-            &mut arrival.market.extended_hours
+            &mut arrival.market[EXTENDED_HOURS]
         }),
     ]
 }
@@ -92,8 +93,8 @@ fn what_only_quotes_read_changes_nothing() {
         let answer = run.compare(&arrival);
         for value in [0, 1, 999, 1_000] {
             let mut other = arrival.clone();
-            other.settings.switches[6] = value;
-            other.settings.set_ticks = value;
+            other.settings[CHECK_26] = value;
+            other.settings[SET_TICKS] = value;
             assert_eq!(run.compare(&other), answer, "{other}");
             answers += 1;
         }

@@ -3,9 +3,10 @@
 use super::{hold, purchase, sale, undetermined, MARCH};
 use compare::{
     arrival::{Answer, Arrival, RawLeg},
-    limits::{self, faults_together, Fault, EXTREMES},
+    limits::{self, every_length, faults_together, Fault, EXTREMES},
     run::Run,
     series::{call, put},
+    slices::{market::*, setting::*},
 };
 
 /// So many calls bought at rising strikes, at a price that no check rejects.
@@ -75,7 +76,7 @@ fn counts() {
         hold(&mut run, &simple, number);
         for place in 0..3 {
             let mut arrival = undetermined();
-            arrival.settings.switches = [0; 7];
+            arrival.settings[CHECK_20..=CHECK_26].fill(0);
             arrival.counts[place * 8..place * 8 + 8].copy_from_slice(&count.to_le_bytes());
             hold(&mut run, &arrival, number);
         }
@@ -87,7 +88,7 @@ fn counts() {
 fn symbols() {
     let mut run = Run::new("symbols of legs");
     let mut switched_off = undetermined();
-    switched_off.settings.switches = [0; 7];
+    switched_off.settings[CHECK_20..=CHECK_26].fill(0);
     for place in 0..switched_off.symbols.len() {
         for byte in 0..=u8::MAX {
             let mut arrival = switched_off.clone();
@@ -175,7 +176,7 @@ fn settings() {
         let number = if within { 0 } else { 9 };
         hold(&mut run, &with_setting(place, value), number);
     }
-    for place in (0..7).chain([18, 19]) {
+    for place in (CHECK_20..=CHECK_26).chain([ADJUSTED, EUROPEAN]) {
         for value in [&[0, 1, 2][..], &EXTREMES].concat() {
             hold(&mut run, &with_setting(place, value), 0);
         }
@@ -184,8 +185,8 @@ fn settings() {
     for minimum in presets {
         for maximum in presets {
             let mut arrival = sale();
-            arrival.settings.preset_minimum = minimum;
-            arrival.settings.preset_maximum = maximum;
+            arrival.settings[PRESET_MINIMUM] = minimum;
+            arrival.settings[PRESET_MAXIMUM] = maximum;
             let within = minimum <= maximum && maximum <= 1_000_000;
             hold(&mut run, &arrival, if within { 0 } else { 9 });
         }
@@ -195,7 +196,7 @@ fn settings() {
 
 fn with_setting(place: usize, value: u64) -> Arrival {
     let mut arrival = sale();
-    arrival.settings = arrival.settings.with(place, value);
+    arrival.settings[place] = value;
     arrival
 }
 
@@ -204,8 +205,8 @@ fn market() {
     let mut run = Run::new("market");
     for (place, value, within) in limits::of_market() {
         let mut arrival = sale();
-        arrival.settings.switches = [0; 7];
-        arrival.market = arrival.market.with(place, value);
+        arrival.settings[CHECK_20..=CHECK_26].fill(0);
+        arrival.market[place] = value;
         hold(&mut run, &arrival, if within { 0 } else { 10 });
     }
     run.finish(&[0, 10], 100);
@@ -234,8 +235,8 @@ fn faults() -> [Fault<Arrival>; 9] {
             append(arrival, series.leg(1));
         }),
         (8, |arrival| arrival.price = -1_000_000_000_001),
-        (9, |arrival| arrival.settings.percentage = 10_001),
-        (10, |arrival| arrival.market.phase = 3),
+        (9, |arrival| arrival.settings[PERCENTAGE] = 10_001),
+        (10, |arrival| arrival.market[PHASE] = 3),
     ]
 }
 
@@ -246,12 +247,17 @@ fn append(arrival: &mut Arrival, leg: RawLeg) {
     arrival.counts = [one.counts, arrival.counts.clone()].concat();
 }
 
-/// Any faults together: the lowest number is given.
+/// Any faults together, and settings and market of any length: the lowest number is given.
 #[test]
 fn lowest_number_first() {
     let mut run = Run::new("faults together");
     for (arrival, number) in faults_together(&undetermined(), &faults()) {
-        hold(&mut run, &arrival, number);
+        for (settings, market, number) in every_length(number) {
+            let mut arrival = arrival.clone();
+            arrival.settings.resize(settings, 1);
+            arrival.market.resize(market, 1);
+            hold(&mut run, &arrival, number);
+        }
     }
-    run.finish(&[0, 1, 3, 4, 5, 6, 7, 8, 9, 10], 512);
+    run.finish(&[0, 1, 3, 4, 5, 6, 7, 8, 9, 10], 80 * 512);
 }

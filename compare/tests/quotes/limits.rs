@@ -4,11 +4,13 @@
 use super::{hold, of_call, of_put, MARCH};
 use compare::{
     limits::{
-        self, around_market_values, every_switching, faults_together, hold_flag, Fault, Flag,
+        self, around_market_values, every_length, every_switching, faults_together, hold_flag,
+        Fault, Flag,
     },
     quote::Quote,
     run::Run,
     series::{call, put},
+    slices::{market::*, setting::*},
 };
 
 const LARGEST: u64 = 1_000_000_000;
@@ -64,20 +66,21 @@ fn settings() {
         hold(&mut run, &with_setting(plain(), place, value), number);
     }
     for (minimum, maximum, number) in [(601, 601, 0), (602, 601, 9), (1_000_001, 1_000_001, 9)] {
-        let quote = with_setting(with_setting(plain(), 15, minimum), 16, maximum);
+        let mut quote = plain();
+        quote.settings[PRESET_MINIMUM..=PRESET_MAXIMUM].copy_from_slice(&[minimum, maximum]);
         hold(&mut run, &quote, number);
     }
     run.finish(&[0, 9], 2 * 11 * 21);
 }
 
-fn with_setting(quote: Quote, place: usize, value: u64) -> Quote {
-    let settings = quote.settings.with(place, value);
-    Quote { settings, ..quote }
+fn with_setting(mut quote: Quote, place: usize, value: u64) -> Quote {
+    quote.settings[place] = value;
+    quote
 }
 
-fn with_market(quote: Quote, place: usize, value: u64) -> Quote {
-    let market = quote.market.with(place, value);
-    Quote { market, ..quote }
+fn with_market(mut quote: Quote, place: usize, value: u64) -> Quote {
+    quote.market[place] = value;
+    quote
 }
 
 #[test]
@@ -85,31 +88,37 @@ fn markets() {
     let mut run = Run::new("markets of quotes");
     for (place, value, within) in limits::of_market() {
         let mut quote = plain();
-        quote.settings.switches = [0; 7];
+        quote.settings[CHECK_20..=CHECK_26].fill(0);
         let number = if within { 0 } else { 10 };
         hold(&mut run, &with_market(quote, place, value), number);
     }
     run.finish(&[0, 10], 2 * 9 * 12);
 }
 
-/// Any faults together, and what 20 and 26 reject: the lowest number is given.
+/// Any faults together, settings and market of any length, and what 20 and 26 reject: the lowest
+/// number is given.
 #[test]
 fn lowest_number_first() {
     const FAULTS: [Fault<Quote>; 7] = [
         (1, |quote| quote.symbol.push(b'0')),
         (4, |quote| quote.symbol[0] = b'x'),
-        (9, |quote| quote.settings.set_ticks = 1_001),
-        (10, |quote| quote.market.close = LARGEST + 1),
+        (9, |quote| quote.settings[SET_TICKS] = 1_001),
+        (10, |quote| quote.market[CLOSE] = LARGEST + 1),
         (11, |quote| quote.offer = quote.bid),
         (20, |quote| quote.bid = 18_000),
-        (26, |quote| quote.market.nbo = 17_000),
+        (26, |quote| quote.market[NBO] = 17_000),
     ];
     let mut run = Run::new("faults of quotes");
     let accepted = of_put(18_000, 17_000, 18_001);
     for (quote, number) in faults_together(&accepted, &FAULTS) {
-        hold(&mut run, &quote, number);
+        for (settings, market, number) in every_length(number) {
+            let mut quote = quote.clone();
+            quote.settings.resize(settings, 1);
+            quote.market.resize(market, 1);
+            hold(&mut run, &quote, number);
+        }
     }
-    run.finish(&[0, 1, 4, 9, 10, 11, 20, 26], 2 * 128);
+    run.finish(&[0, 1, 4, 9, 10, 11, 20, 26], 2 * 80 * 128);
 }
 
 #[test]
@@ -124,9 +133,9 @@ fn put_strike() {
                 // The underlying is nothing to a put.
                 for underlying in [0, 1, strike] {
                     let mut quote = of_put(strike, bid, offer);
-                    quote.market.underlying = underlying;
+                    quote.market[UNDERLYING] = underlying;
                     hold(&mut run, &quote, if bid >= strike { 20 } else { 0 });
-                    quote.settings.switches[0] = 0;
+                    quote.settings[CHECK_20] = 0;
                     hold(&mut run, &quote, 0);
                 }
             }
@@ -146,11 +155,11 @@ fn call_underlying() {
                 for strike in [1, 20_000, 99_999_999] {
                     let mut quote = Quote::new(&call(MARCH, strike).symbol(), bid, offer);
                     hold(&mut run, &quote, 0);
-                    quote.market.underlying = underlying;
+                    quote.market[UNDERLYING] = underlying;
                     hold(&mut run, &quote, if bid >= underlying { 21 } else { 0 });
-                    hold(&mut run, &with_setting(quote.clone(), 1, 0), 0);
-                    hold(&mut run, &with_setting(quote.clone(), 18, 1), 0); // adjusted
-                    hold(&mut run, &with_market(quote, 2, 1), 0); // extended hours
+                    hold(&mut run, &with_setting(quote.clone(), CHECK_21, 0), 0);
+                    hold(&mut run, &with_setting(quote.clone(), ADJUSTED, 1), 0);
+                    hold(&mut run, &with_market(quote, EXTENDED_HOURS, 1), 0);
                 }
             }
         }
@@ -191,9 +200,9 @@ const ROWS: [Row; 22] = [
     ([0, 0, 0, 0], 0, 0),
 ];
 
-fn market_of(prices: [u64; 4], quote: Quote) -> Quote {
-    let market = quote.market.with_prices(prices);
-    Quote { market, ..quote }
+fn market_of(prices: [u64; 4], mut quote: Quote) -> Quote {
+    quote.market[NBB..=OWN_OFFER].copy_from_slice(&prices);
+    quote
 }
 
 /// Holds the highest bid and the lowest offer accepted, with the other side of the quote as far away
@@ -230,22 +239,22 @@ fn inversion() {
     for (prices, highest_bid, lowest_offer) in ROWS {
         for (phase, open_elsewhere) in [(1, 0), (1, 1), (0, 1), (0, u64::MAX)] {
             let mut quote = market_of(prices, plain());
-            (quote.market.phase, quote.market.open_elsewhere) = (phase, open_elsewhere);
+            (quote.market[PHASE], quote.market[OPEN_ELSEWHERE]) = (phase, open_elsewhere);
             hold_row(&mut run, &quote, highest_bid, lowest_offer);
             // Neither the close nor extended hours are anything to 26, and nor is the type.
-            (quote.market.close, quote.market.extended_hours) = (1, 1);
+            (quote.market[CLOSE], quote.market[EXTENDED_HOURS]) = (1, 1);
             quote.symbol = put(MARCH, 99_999_999).symbol().to_vec();
-            quote.settings.switches[0] = 0;
+            quote.settings[CHECK_20] = 0;
             hold_row(&mut run, &quote, highest_bid, lowest_offer);
         }
         for (phase, open_elsewhere) in [(0, 0), (2, 0), (2, 1)] {
             let mut quote = market_of(prices, plain());
-            (quote.market.phase, quote.market.open_elsewhere) = (phase, open_elsewhere);
+            (quote.market[PHASE], quote.market[OPEN_ELSEWHERE]) = (phase, open_elsewhere);
             hold_row(&mut run, &quote, 0, 0);
         }
         hold_row(
             &mut run,
-            &with_setting(market_of(prices, plain()), 6, 0),
+            &with_setting(market_of(prices, plain()), CHECK_26, 0),
             0,
             0,
         );
@@ -277,9 +286,8 @@ fn ticks() {
     let mut run = Run::new("26 by tick");
     for (price, set_ticks, highest_bid, lowest_offer) in TICKS {
         let mut quote = plain();
-        quote.settings.set_ticks = set_ticks;
-        quote.settings.tick_below_3000 = 11;
-        quote.settings.tick_from_3000 = 13;
+        quote.settings[SET_TICKS] = set_ticks;
+        quote.settings[TICK_BELOW_3000..=TICK_FROM_3000].copy_from_slice(&[11, 13]);
         // The own price is the best, beside one that is missing or far away; or the NBBO is
         // unavailable or locked. The far prices are further than a quote can go.
         for prices in [
@@ -309,9 +317,8 @@ fn ticks() {
 fn largest_prices() {
     let mut run = Run::new("26 at most");
     let mut quote = plain();
-    quote.settings.set_ticks = 1_000;
-    quote.settings.tick_below_3000 = 1_000;
-    quote.settings.tick_from_3000 = 1_000;
+    quote.settings[SET_TICKS] = 1_000;
+    quote.settings[TICK_BELOW_3000..=TICK_FROM_3000].fill(1_000);
     let at_best = |best| market_of([best, 0, best, 0], quote.clone());
     hold_row(&mut run, &at_best(LARGEST), 0, LARGEST - 1_000_000);
     hold_row(&mut run, &at_best(1_000_002), 0, 0);
@@ -330,7 +337,7 @@ fn switches() {
     let mut run = Run::new("switches of quotes");
     let both = [1_000, 1_200, 1_000, 1_200];
     let mut far_call = market_of(both, of_call(20_000, 20_001));
-    far_call.market.underlying = 10_000;
+    far_call.market[UNDERLYING] = 10_000;
     let low_offer = market_of(both, of_call(900, 959));
     let quotes: [(Quote, &[u64]); 4] = [
         (market_of(both, of_put(18_000, 18_000, 18_001)), &[20, 26]),
@@ -339,9 +346,9 @@ fn switches() {
         (market_of(both, plain()), &[]),
     ];
     for (quote, rejecting) in quotes {
-        for (switches, number) in every_switching(rejecting) {
+        for (settings, number) in every_switching(rejecting) {
             let mut quote = quote.clone();
-            quote.settings.switches = switches;
+            quote.settings = settings;
             hold(&mut run, &quote, number);
         }
     }
@@ -354,20 +361,18 @@ type Flagged = (Quote, Flag<Quote>);
 fn flags() -> [Flagged; 7] {
     let at_strike = of_put(18_000, 18_000, 18_001);
     let mut at_underlying = of_call(10_000, 10_001);
-    at_underlying.market.underlying = 10_000;
+    at_underlying.market[UNDERLYING] = 10_000;
     let inverting = market_of([0, 900, 0, 0], plain());
     let mut before_opening = inverting.clone();
-    before_opening.market.phase = 0;
+    before_opening.market[PHASE] = 0;
     [
         (at_strike.clone(), |quote| &mut quote.resting),
-        (at_strike, |quote| &mut quote.settings.switches[0]),
-        (at_underlying.clone(), |quote| {
-            &mut quote.settings.switches[1]
-        }),
-        (inverting, |quote| &mut quote.settings.switches[6]),
-        (at_underlying.clone(), |quote| &mut quote.settings.adjusted),
-        (at_underlying, |quote| &mut quote.market.extended_hours),
-        (before_opening, |quote| &mut quote.market.open_elsewhere),
+        (at_strike, |quote| &mut quote.settings[CHECK_20]),
+        (at_underlying.clone(), |quote| &mut quote.settings[CHECK_21]),
+        (inverting, |quote| &mut quote.settings[CHECK_26]),
+        (at_underlying.clone(), |quote| &mut quote.settings[ADJUSTED]),
+        (at_underlying, |quote| &mut quote.market[EXTENDED_HOURS]),
+        (before_opening, |quote| &mut quote.market[OPEN_ELSEWHERE]),
     ]
 }
 
@@ -384,18 +389,19 @@ fn any_other_value_is_yes() {
 /// What only orders read changes nothing, as long as it is within its limits.
 #[test]
 fn what_only_orders_read_changes_nothing() {
-    const ONLY_ORDERS: [usize; 13] = [2, 3, 4, 5, 9, 10, 11, 12, 13, 14, 15, 16, 19];
+    let checks_and_amounts = (CHECK_22..=CHECK_25).chain(NET_INCREMENT..=PRESET_MAXIMUM);
+    let only_orders: Vec<usize> = checks_and_amounts.chain([EUROPEAN]).collect();
     let mut run = Run::new("only orders");
     for (quote, _) in flags() {
         let answer = run.compare(&quote);
-        for place in ONLY_ORDERS {
+        for &place in &only_orders {
             for value in [2, 600] {
                 let other = with_setting(quote.clone(), place, value);
                 assert_eq!(run.compare(&other), answer, "{other}");
             }
         }
         for close in [1, 900, LARGEST] {
-            let other = with_market(quote.clone(), 8, close);
+            let other = with_market(quote.clone(), CLOSE, close);
             assert_eq!(run.compare(&other), answer, "{other}");
         }
     }

@@ -8,6 +8,7 @@ mod situation;
 mod small_markets;
 
 use compare::{
+    numbers::{kind, Kind},
     quote::Quote,
     run::Run,
     series::{call, put},
@@ -23,7 +24,11 @@ fn hold(run: &mut Run, quote: &Quote, number: u64) {
             ..quote.clone()
         };
         let answer = run.compare(&quote);
-        let cancel = if number >= 20 { resting } else { 0 };
+        let cancel = if kind(number) == Kind::Rejected {
+            resting
+        } else {
+            0
+        };
         assert_eq!((answer.number, answer.cancel), (number, cancel), "{quote}");
     }
 }

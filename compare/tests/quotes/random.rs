@@ -5,6 +5,7 @@ use compare::{
     generate::quote,
     quote::{Quote, QuoteAnswer},
     run::Run,
+    slices::{market::*, setting::*},
 };
 use std::collections::BTreeMap;
 
@@ -41,10 +42,10 @@ impl Met {
         if ![0, 26].contains(&answer.number) {
             return; // 26 may not have been asked
         }
-        let elsewhere = quote.market.open_elsewhere != 0;
-        let (phase, switch) = (quote.market.phase, quote.settings.switches[6] != 0);
+        let elsewhere = quote.market[OPEN_ELSEWHERE] != 0;
+        let (phase, switch) = (quote.market[PHASE], quote.settings[CHECK_26] != 0);
         *self.phases.entry((phase, elsewhere, switch)).or_default() += 1;
-        let applies = phase == 1 || phase == 0 && elsewhere;
+        let applies = phase == OPEN || phase == PRE_OPENING && elsewhere;
         if !applies || !switch {
             return;
         }

@@ -1,7 +1,10 @@
 //! In which situation a side of a quote is when 26 looks at it, so that a random run can be asked
 //! whether it met them all. What the situation leads to is not decided here.
 
-use compare::quote::Quote;
+use compare::{
+    quote::Quote,
+    slices::{market::*, setting::*},
+};
 
 #[derive(Clone, Copy, Debug, PartialEq, Eq, PartialOrd, Ord)]
 pub enum Side {
@@ -61,15 +64,15 @@ impl Side {
 pub fn of(quote: &Quote, side: Side) -> Met {
     let market = &quote.market;
     let (price, best, other, own) = match side {
-        Side::Bid => (quote.bid, market.nbo, market.nbb, market.own_offer),
-        Side::Offer => (quote.offer, market.nbb, market.nbo, market.own_bid),
+        Side::Bid => (quote.bid, market[NBO], market[NBB], market[OWN_OFFER]),
+        Side::Offer => (quote.offer, market[NBB], market[NBO], market[OWN_BID]),
     };
     let nbbo = match (best, other) {
         (0, 0) => Nbbo::Unavailable,
         (0, _) => Nbbo::OnlyOther,
         (_, 0) => Nbbo::OnlyCompared,
         _ if best == other => Nbbo::Locked,
-        _ if market.nbb > market.nbo => Nbbo::Crossed,
+        _ if market[NBB] > market[NBO] => Nbbo::Crossed,
         _ => Nbbo::Both,
     };
     let compared = match nbbo {
@@ -93,10 +96,10 @@ pub fn of(quote: &Quote, side: Side) -> Met {
 
 fn place(quote: &Quote, side: Side, price: u64, compared: u64) -> Place {
     let tick = match compared {
-        0..=2_999 => quote.settings.tick_below_3000,
-        _ => quote.settings.tick_from_3000,
+        0..=2_999 => quote.settings[TICK_BELOW_3000],
+        _ => quote.settings[TICK_FROM_3000],
     };
-    let ticks = (quote.settings.set_ticks * tick) as i64;
+    let ticks = (quote.settings[SET_TICKS] * tick) as i64;
     let above = match side {
         Side::Bid => price as i64 - compared as i64,
         Side::Offer => compared as i64 - price as i64,

@@ -2,10 +2,10 @@
 
 use super::{of_call, of_put};
 use compare::{
-    arrival::{Market, EXAMPLE_MARKET},
     limits::every,
     quote::Quote,
     run::Run,
+    slices::{market::*, setting::*},
 };
 
 /// Phase and open elsewhere.
@@ -17,31 +17,22 @@ const PHASES: [(u64, u64); 5] = [(0, 0), (0, 1), (1, 0), (2, 0), (2, 1)];
 #[test]
 fn every_market_of_small_prices() {
     let mut run = Run::new("small markets");
-    for [underlying, nbb, nbo, own_bid, own_offer, close] in every(&[0, 1, 2, 3, 4]) {
+    for values in every::<6, u64>(&[0, 1, 2, 3, 4]) {
         for (phase, open_elsewhere) in PHASES {
-            let market = Market {
-                phase,
-                open_elsewhere,
-                underlying,
-                close,
-                ..EXAMPLE_MARKET.with_prices([nbb, nbo, own_bid, own_offer])
-            };
-            every_small_quote(&mut run, market, close % 3);
+            let market = [&[phase, open_elsewhere, 0], &values[..]].concat();
+            every_small_quote(&mut run, &market);
         }
     }
     run.finish(&[0, 20, 21, 26], 15_625 * 5 * 2 * 15);
 }
 
-fn every_small_quote(run: &mut Run, market: Market, set_ticks: u64) {
-    let strike = 2 * market.underlying + 1;
+fn every_small_quote(run: &mut Run, market: &[u64]) {
+    let strike = 2 * market[UNDERLYING] + 1;
     let mut quotes = [of_call(0, 0), of_put(strike, 0, 0)];
     for quote in &mut quotes {
-        quote.market = market;
-        quote.settings.set_ticks = set_ticks;
-        (
-            quote.settings.tick_below_3000,
-            quote.settings.tick_from_3000,
-        ) = (1, 1);
+        quote.market = market.to_vec();
+        quote.settings[SET_TICKS] = market[CLOSE] % 3;
+        quote.settings[TICK_BELOW_3000..=TICK_FROM_3000].fill(1);
         for bid in 1..=5 {
             for offer in bid + 1..=6 {
                 (quote.bid, quote.offer) = (bid, offer);
@@ -57,12 +48,12 @@ fn every_small_quote(run: &mut Run, market: Market, set_ticks: u64) {
 #[test]
 fn every_sequence_of_prices() {
     let mut run = Run::new("sequences of prices");
-    for prices in every(&[0, 1, 2, 3, 4, 5, 6]) {
+    for prices in every::<4, u64>(&[0, 1, 2, 3, 4, 5, 6]) {
         let mut quote = of_call(0, 0);
-        quote.settings.tick_below_3000 = 1;
-        quote.market = EXAMPLE_MARKET.with_prices(prices);
+        quote.settings[TICK_BELOW_3000] = 1;
+        quote.market[NBB..=OWN_OFFER].copy_from_slice(&prices);
         for set_ticks in 0..=3 {
-            quote.settings.set_ticks = set_ticks;
+            quote.settings[SET_TICKS] = set_ticks;
             for (bid, offer) in (1..=8).flat_map(|bid| (bid + 1..=9).map(move |o| (bid, o))) {
                 (quote.bid, quote.offer) = (bid, offer);
                 quote.resting = (bid + offer) % 2;
@@ -81,20 +72,13 @@ fn every_market_around_3000() {
     const VALUES: [u64; 5] = [0, 2_998, 2_999, 3_000, 3_001];
     const TICKS: [u64; 2] = [11, 13];
     let mut run = Run::new("markets around 3,000");
-    for prices in every(&VALUES) {
+    for prices in every::<4, u64>(&VALUES) {
         for (phase, open_elsewhere) in [(0, 1), (1, 0)] {
             for set_ticks in [0, 1, 3] {
                 let mut quote = of_call(1, 1_000_000);
-                quote.settings.set_ticks = set_ticks;
-                [
-                    quote.settings.tick_below_3000,
-                    quote.settings.tick_from_3000,
-                ] = TICKS;
-                quote.market = Market {
-                    phase,
-                    open_elsewhere,
-                    ..EXAMPLE_MARKET.with_prices(prices)
-                };
+                quote.settings[SET_TICKS] = set_ticks;
+                quote.settings[TICK_BELOW_3000..=TICK_FROM_3000].copy_from_slice(&TICKS);
+                quote.market = [&[phase, open_elsewhere, 0, 0], &prices[..], &[0]].concat();
                 every_price(&mut run, &quote, &prices_of_interest(set_ticks, TICKS));
             }
         }

@@ -79,6 +79,13 @@ fn numbers(seed: &mut Vec<u8>, numbers: &[u64]) {
     seed.extend(numbers.iter().flat_map(|number| number.to_le_bytes()));
 }
 
+fn slices(seed: &mut Vec<u8>, settings: &[u64], market: &[u64]) {
+    for slice in [settings, market] {
+        seed.push(slice.len() as u8);
+        numbers(seed, slice);
+    }
+}
+
 fn order(arrival: &Arrival) -> Vec<u8> {
     let [symbols, counts] = [&arrival.symbols, &arrival.counts].map(Vec::as_slice);
     let [low, high] = (symbols.len() as u16).to_le_bytes();
@@ -87,8 +94,7 @@ fn order(arrival: &Arrival) -> Vec<u8> {
     seed.extend(arrival.price.to_le_bytes());
     let flags = [arrival.kind, arrival.stop, arrival.manual, arrival.opening];
     numbers(&mut seed, &flags);
-    numbers(&mut seed, &arrival.settings.numbers());
-    numbers(&mut seed, &arrival.market.numbers());
+    slices(&mut seed, &arrival.settings, &arrival.market);
     seed
 }
 
@@ -103,8 +109,7 @@ fn quote(quote: &Quote) -> Vec<u8> {
     let mut seed = vec![QUOTE, 0, 0, quote.symbol.len() as u8];
     seed.extend(&quote.symbol);
     numbers(&mut seed, &[quote.bid, quote.offer, quote.resting]);
-    numbers(&mut seed, &quote.settings.numbers());
-    numbers(&mut seed, &quote.market.numbers());
+    slices(&mut seed, &quote.settings, &quote.market);
     seed
 }
 
