@@ -1,4 +1,4 @@
--- Checks 23 and 24, and the first that applies, test for test.
+-- Checks 23 and 24, test for test, and the checks of simple orders.
 use mathlib.Core.Path.{_≡_, refl}
 use mathlib.Core.List.{List, [], _∷_}
 use mathlib.Core.Bool.{Bool, true, false, not, _&&_, _||_}
@@ -8,16 +8,17 @@ use native.Mathlib.Nat.{mul-le-mul}
 use lib.ListN.{length}
 use lib.Dec.{eqb, ltb}
 use borrow.Author.Tests.{leb-true, ne-eqb}
+use Rattle.rules.specs.declared.Mills.{Mills}
+use Rattle.rules.specs.declared.Series.{Series}
 use Rattle.rules.specs.declared.Terms.{Terms}
 use Rattle.rules.specs.declared.Leg.{Leg}
 use Rattle.rules.specs.declared.Settings.{Settings}
 use Rattle.rules.specs.declared.Market.{Market}
 use Rattle.rules.specs.Lists.{All, every}
-use Rattle.rules.specs.Order.{isYes, isSimple, isComplex}
+use Rattle.rules.specs.Order.{isSimple, isComplex}
 use Rattle.rules.specs.Class.{shapeOf}
-use Rattle.rules.specs.Checks.{isPositive, isNegative, simpleBuy, buyBuy, debitCredit, maximumOf, allowance, hasMaximum, maximumValue}
+use Rattle.rules.specs.Checks.{isPositive, isNegative, simpleBuy, debitCredit, maximumOf, allowance, hasMaximum, maximumValue}
 use Rattle.rules.specs.Market.{tickDistance}
-use Rattle.rules.specs.Numbers.{firstOf, rejection}
 use Rattle.rules.proofs.Tests.{and-no}
 use Rattle.buy_buy.specs.Complex.{LegWithin}
 
@@ -65,21 +66,16 @@ module _ (st : Settings) (t : Terms) (ls : List Leg) {shape : ℕ} {has : Bool} 
   unfolding maximumValue
   maximum-untested h = cc
 
--- ---- the first that applies: the checks of simple orders do not
+-- ---- the checks of simple orders do not apply
 
-module _ (st : Settings) (t : Terms) (ls : List Leg) (class : ℕ) (complex : isComplex ls ≡ true) where
-  abbrev sums : Bool
-  sums = isYes (st .check22) && buyBuy st t ls
-
-  abbrev signs : Bool
-  signs = isYes (st .check23) && debitCredit t ls class
-
-  abbrev maximum : Bool
-  maximum = isYes (st .check24) && maximumValue st t ls
-
+module _ (ls : List Leg) (complex : isComplex ls ≡ true) where
   not-simple : isSimple ls ≡ false
   not-simple = ne-eqb (length ls) 1 (λ e. omega (arith, leb-true 2 (length ls) complex))
 
-  pub several : {p q v : Bool} {r : ℕ} → p ≡ sums → q ≡ signs → v ≡ maximum → r ≡ firstOf ((p, 22) ∷ (q, 23) ∷ (v, 24) ∷ []) → (m : Market) → r ≡ rejection st m t ls class
-  unfolding rejection firstOf simpleBuy tickDistance every
-  several a b d e m = rw (not-simple, and-no (isYes (st .check20)), and-no (isYes (st .check21)), and-no (isYes (st .check25)), ← a, ← b, ← d) e
+  pub no-simple-buy : (on : Bool) (test : Series → Mills → Bool) (t : Terms) → on && simpleBuy test t ls ≡ false
+  unfolding simpleBuy every
+  no-simple-buy on test t = rw not-simple (and-no on)
+
+  pub no-tick-distance : (on : Bool) (st : Settings) (m : Market) (t : Terms) → on && tickDistance st m t ls ≡ false
+  unfolding tickDistance every
+  no-tick-distance on st m t = rw not-simple (and-no on)

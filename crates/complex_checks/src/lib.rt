@@ -1,11 +1,11 @@
 // The checks of a complex order: 22, 23 and 24, and the first of them that applies. `us` are the unit legs in the first
 // walk's sequence.
 use buy_buy::buy_buy;
+use chain::checked;
 use choice::both;
 use choice::either;
 use choice::greater;
 use choice::smaller;
-use first::first_of_three;
 use price::is_negative;
 use price::is_positive;
 use rules::Legs;
@@ -72,12 +72,7 @@ pub fn rejection(st: Settings, t: Terms, us: Legs, class: u64, shape: u64) -> u6
     requires { ⌜ ComplexOrder st us × (shape ≡ shapeOf (legsIn us)) ⌝ }
     ensures { λ r. ⌜ ((m : Market) → r ≡ rejection st m t (legsIn us) class) ⌝ }
 {
-    first_of_three(
-        both(st.check22 != 0, buy_buy(st, t, us)),
-        22,
-        both(st.check23 != 0, debit_credit(t, class)),
-        23,
-        both(st.check24 != 0, maximum_value(st, t, us, shape)),
-        24,
-    )
+    let n = checked(0, st.check22 != 0, buy_buy(st, t, us), 22);
+    let n = checked(n, st.check23 != 0, debit_credit(t, class), 23);
+    checked(n, st.check24 != 0, maximum_value(st, t, us, shape), 24)
 }
