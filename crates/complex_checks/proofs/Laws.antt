@@ -1,25 +1,24 @@
--- Checks 23 and 24, and the first that applies, test for test.
+-- Checks 23 and 24, test for test, and the checks of simple orders.
 use mathlib.Core.Path.{_≡_, refl}
 use mathlib.Core.List.{List, [], _∷_}
 use mathlib.Core.Bool.{Bool, true, false, not, _&&_, _||_}
 use Prim.Native.Nat.{ℕ, _+_, _-_, _*_, _≤_}
 use native.Mathlib.Omega.{arith}
 use native.Mathlib.Nat.{mul-le-mul}
-use lib.ListN.{length}
 use lib.Dec.{eqb, ltb}
-use borrow.Author.Tests.{leb-true, ne-eqb}
+use Rattle.rules.specs.declared.Mills.{Mills}
+use Rattle.rules.specs.declared.Series.{Series}
 use Rattle.rules.specs.declared.Terms.{Terms}
 use Rattle.rules.specs.declared.Leg.{Leg}
 use Rattle.rules.specs.declared.Settings.{Settings}
 use Rattle.rules.specs.declared.Market.{Market}
 use Rattle.rules.specs.Lists.{All, every}
-use Rattle.rules.specs.Order.{isYes, isSimple, isComplex}
+use Rattle.rules.specs.Order.{isSimple, isComplex}
 use Rattle.rules.specs.Class.{shapeOf}
-use Rattle.rules.specs.Checks.{isPositive, isNegative, simpleBuy, buyBuy, debitCredit, maximumOf, allowance, hasMaximum, maximumValue}
+use Rattle.rules.specs.Checks.{isPositive, isNegative, simpleBuy, debitCredit, maximumOf, allowance, hasMaximum, maximumValue}
 use Rattle.rules.specs.Market.{tickDistance}
-use Rattle.rules.specs.Numbers.{firstOf, rejection}
-use Rattle.rules.proofs.Tests.{and-no}
-use Rattle.buy_buy.specs.Complex.{LegWithin}
+use Rattle.rules.proofs.Tests.{and-no, not-eq}
+use Rattle.rules.specs.Valid.{UnitWithin}
 
 -- ---- check 23
 
@@ -38,7 +37,7 @@ pub debit-credit-read : (t : Terms) (class : ℕ) {negative positive first debit
     → credit ≡ eqb class 2 && positive
     → r ≡ debit || credit
     → (us : List Leg)
-    → isComplex us ≡ true
+    → isComplex t us ≡ true
     → r ≡ debitCredit t us class
 unfolding debitCredit
 debit-credit-read t class n p f d c r us h = cc (debit-grouped (eqb (t .kind) 0) (eqb class 1) (isNegative (t .price)))
@@ -48,7 +47,7 @@ debit-credit-read t class n p f d c r us h = cc (debit-grouped (eqb (t .kind) 0)
 pub share-bound : (m percentage : ℕ) → m ≤ 99999999 → percentage ≤ 10000 → m * percentage ≤ 999999990000
 share-bound m percentage h k = omega (arith, mul-le-mul h k)
 
-pub maximum-bound : (ls : List Leg) → All LegWithin ls → maximumOf ls ≤ 99999999
+pub maximum-bound : (ls : List Leg) → All UnitWithin ls → maximumOf ls ≤ 99999999
 unfolding maximumOf
 maximum-bound [] h = omega arith
 maximum-bound (a ∷ []) h = omega arith
@@ -65,21 +64,13 @@ module _ (st : Settings) (t : Terms) (ls : List Leg) {shape : ℕ} {has : Bool} 
   unfolding maximumValue
   maximum-untested h = cc
 
--- ---- the first that applies: the checks of simple orders do not
+-- ---- the checks of simple orders do not apply
 
-module _ (st : Settings) (t : Terms) (ls : List Leg) (class : ℕ) (complex : isComplex ls ≡ true) where
-  abbrev sums : Bool
-  sums = isYes (st .check22) && buyBuy st t ls
+module _ (t : Terms) (ls : List Leg) (complex : isComplex t ls ≡ true) where
+  pub no-simple-buy : (on : Bool) (test : Series → Mills → Bool) → on && simpleBuy test t ls ≡ false
+  unfolding simpleBuy every
+  no-simple-buy on test = rw (not-eq (isSimple t ls) complex) (and-no on)
 
-  abbrev signs : Bool
-  signs = isYes (st .check23) && debitCredit t ls class
-
-  abbrev maximum : Bool
-  maximum = isYes (st .check24) && maximumValue st t ls
-
-  not-simple : isSimple ls ≡ false
-  not-simple = ne-eqb (length ls) 1 (λ e. omega (arith, leb-true 2 (length ls) complex))
-
-  pub several : {p q v : Bool} {r : ℕ} → p ≡ sums → q ≡ signs → v ≡ maximum → r ≡ firstOf ((p, 22) ∷ (q, 23) ∷ (v, 24) ∷ []) → (m : Market) → r ≡ rejection st m t ls class
-  unfolding rejection firstOf simpleBuy tickDistance every
-  several a b d e m = rw (not-simple, and-no (isYes (st .check20)), and-no (isYes (st .check21)), and-no (isYes (st .check25)), ← a, ← b, ← d) e
+  pub no-tick-distance : (on : Bool) (st : Settings) (m : Market) → on && tickDistance st m t ls ≡ false
+  unfolding tickDistance every
+  no-tick-distance on st m = rw (not-eq (isSimple t ls) complex) (and-no on)

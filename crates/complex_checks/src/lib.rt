@@ -1,11 +1,11 @@
 // The checks of a complex order: 22, 23 and 24, and the first of them that applies. `us` are the unit legs in the first
 // walk's sequence.
 use buy_buy::buy_buy;
+use chain::checked;
 use choice::both;
 use choice::either;
 use choice::greater;
 use choice::smaller;
-use first::first_of_three;
 use rules::Legs;
 use rules::Settings;
 use rules::Terms;
@@ -23,11 +23,11 @@ ghost use Rattle.rules.specs.Class.{shapeOf};
 ghost use Rattle.rules.specs.Checks.{debitCredit, allowance, hasMaximum, maximumValue};
 ghost use Rattle.rules.specs.Market.{settingsHold};
 ghost use Rattle.rules.specs.Numbers.{rejection};
-ghost use Rattle.buy_buy.specs.Complex.{ComplexOrder};
+ghost use Rattle.rules.specs.Valid.{ComplexOrder};
 
-// Check 23, of an order of two or more legs: only its class and its terms decide.
+// Check 23, of a complex order: only its class and its terms decide.
 fn debit_credit(t: Terms, class: u64) -> bool
-    ensures { λ r. ⌜ ((us : List Leg) → isComplex us ≡ true → r ≡ debitCredit t us class) ⌝ }
+    ensures { λ r. ⌜ ((us : List Leg) → isComplex t us ≡ true → r ≡ debitCredit t us class) ⌝ }
 {
     let negative = is_negative(t.price);
     let positive = is_positive(t.price);
@@ -57,7 +57,7 @@ fn has_maximum(shape: u64) -> bool
 
 // Check 24.
 fn maximum_value(st: Settings, t: Terms, us: Legs, shape: u64) -> bool
-    requires { ⌜ ComplexOrder st us × (shape ≡ shapeOf (legsIn us)) ⌝ }
+    requires { ⌜ ComplexOrder st t us × (shape ≡ shapeOf (legsIn us)) ⌝ }
     ensures { λ r. ⌜ r ≡ maximumValue st t (legsIn us) ⌝ }
 {
     if has_maximum(shape) {
@@ -69,15 +69,10 @@ fn maximum_value(st: Settings, t: Terms, us: Legs, shape: u64) -> bool
 
 // The number of the first check that applies, 0 if none. The others are of simple orders.
 pub fn rejection(st: Settings, t: Terms, us: Legs, class: u64, shape: u64) -> u64
-    requires { ⌜ ComplexOrder st us × (shape ≡ shapeOf (legsIn us)) ⌝ }
+    requires { ⌜ ComplexOrder st t us × (shape ≡ shapeOf (legsIn us)) ⌝ }
     ensures { λ r. ⌜ ((m : Market) → r ≡ rejection st m t (legsIn us) class) ⌝ }
 {
-    first_of_three(
-        both(st.check22 != 0, buy_buy(st, t, us)),
-        22,
-        both(st.check23 != 0, debit_credit(t, class)),
-        23,
-        both(st.check24 != 0, maximum_value(st, t, us, shape)),
-        24,
-    )
+    let n = checked(0, st.check22 != 0, buy_buy(st, t, us), 22);
+    let n = checked(n, st.check23 != 0, debit_credit(t, class), 23);
+    checked(n, st.check24 != 0, maximum_value(st, t, us, shape), 24)
 }

@@ -1,4 +1,5 @@
 // The tests of an amount paid for one option, of an order as of a quote.
+use chain::also;
 use choice::both;
 use choice::negated;
 use rules::Market;
@@ -18,7 +19,9 @@ pub fn put_test(s: Series, paid: Mills) -> bool
 pub fn call_test(adjusted: bool, m: Market, s: Series, paid: Mills) -> bool
     ensures { λ r. ⌜ r ≡ callTest adjusted m s paid ⌝ }
 {
-    let priced = both(0 < m.underlying.0, m.underlying.0 <= paid.0);
-    let usual = both(negated(adjusted), m.extended == 0);
-    both(s.call, both(priced, usual))
+    let held = also(true, s.call);
+    let held = also(held, 0 < m.underlying.0);
+    let held = also(held, m.underlying.0 <= paid.0);
+    let held = also(held, negated(adjusted));
+    also(held, m.extended == 0)
 }

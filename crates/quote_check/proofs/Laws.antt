@@ -1,36 +1,14 @@
 -- The definitions of the quote check, case by case.
 use mathlib.Core.Path.{_≡_, refl, sym, ap, _∙_}
-use mathlib.Core.List.{List, [], _∷_}
-use mathlib.Core.Bool.{Bool, _&&_}
+use mathlib.Core.List.{List}
 use Prim.Native.Nat.{ℕ, zero, suc}
 use Rattle.rules.specs.declared.Mills.{Mills}
-use Rattle.rules.specs.declared.Series.{Series}
 use Rattle.rules.specs.declared.Settings.{Settings}
 use Rattle.rules.specs.declared.Market.{Market}
 use Rattle.rules.specs.declared.QuoteAnswer.{QuoteAnswer}
 use Rattle.rules.specs.Symbol.{partsOf}
-use Rattle.rules.specs.Order.{isYes, seriesOf}
-use Rattle.rules.specs.Checks.{putTest, callTest}
-use Rattle.rules.specs.Numbers.{firstOf}
-use Rattle.rules.specs.Quote.{quoteInversion, quoteRefusal, quoteRejection, answeredQuote, quoteOutcome, checkQuote}
-
--- ---- the first check that applies
-
-module _ (st : Settings) (m : Market) (s : Series) (bid offer : Mills) where
-  abbrev put : Bool
-  put = isYes (st .check20) && putTest s bid
-
-  abbrev call : Bool
-  call = isYes (st .check21) && callTest st m s bid
-
-  abbrev inverted : Bool
-  inverted = isYes (st .check26) && quoteInversion st m bid offer
-
-  pub first-test : {p c v : Bool} {r : ℕ} → p ≡ put → c ≡ call → v ≡ inverted → r ≡ firstOf ((p, 20) ∷ (c, 21) ∷ (v, 26) ∷ []) → r ≡ quoteRejection st m s bid offer
-  unfolding quoteRejection
-  first-test a b d e = rw (← a, ← b, ← d) e
-
--- ---- the answer
+use Rattle.rules.specs.Order.{seriesOf}
+use Rattle.rules.specs.Quote.{quoteRefusal, quoteRejection, answeredQuote, quoteOutcome, checkQuote}
 
 module _ (st : Settings) (m : Market) (symbol : List ℕ) (bid offer : Mills) where
   outcome-some : (n : ℕ) (a : QuoteAnswer) → (n ≡ 0 → ⊥) → record { number = n; cancel = 0 } ≡ quoteOutcome n a

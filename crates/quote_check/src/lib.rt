@@ -1,7 +1,7 @@
 // The quote check.
+use chain::checked;
 use choice::both;
 use choice::pick;
-use first::first_of_three;
 use inversion::quote_inversion;
 use put_call::call_test;
 use put_call::put_test;
@@ -21,14 +21,14 @@ pub fn rejection(st: Settings, m: Market, s: Series, bid: Mills, offer: Mills) -
     requires { ⌜ (settingsHold st ≡ true) × (marketHolds m ≡ true) ⌝ }
     ensures { λ r. ⌜ r ≡ quoteRejection st m s bid offer ⌝ }
 {
-    first_of_three(
-        both(st.check20 != 0, put_test(s, bid)),
-        20,
-        both(st.check21 != 0, call_test(st, m, s, bid)),
+    let n = checked(0, st.check20 != 0, put_test(s, bid), 20);
+    let n = checked(
+        n,
+        st.check21 != 0,
+        call_test(st.adjusted != 0, m, s, bid),
         21,
-        both(st.check26 != 0, quote_inversion(st, m, bid, offer)),
-        26,
-    )
+    );
+    checked(n, st.check26 != 0, quote_inversion(st, m, bid, offer), 26)
 }
 
 // A rejection cancels the resting quote.

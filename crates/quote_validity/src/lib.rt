@@ -1,7 +1,7 @@
-// The refusals of a quote: the first number that applies, and the series as read.
+// The refusals of a quote: the first number that applies, and root and series as read.
+use chain::otherwise;
 use choice::either;
 use choice::negated;
-use choice::pick;
 use choice::within;
 use limits::market_holds;
 use limits::settings_hold;
@@ -13,14 +13,13 @@ use rules::Settings;
 use symbol::is_symbol;
 use symbol::parts_of;
 ghost use mathlib.Core.Path.{_≡_};
-ghost use mathlib.Core.List.{[], _∷_};
 ghost use Rattle.rules.specs.Quote.{isBadQuote};
-ghost use Rattle.rules.specs.Numbers.{firstOf};
 ghost use Rattle.quote_validity.specs.Quotes.{IsQuoteRead};
 
-// The series counts only where the number is 0.
+// Root and series count only where the number is 0.
 pub struct QuoteRead {
     pub number: u64,
+    pub root: u64,
     pub series: Series,
 }
 
@@ -36,14 +35,6 @@ fn is_bad_quote(bid: Mills, offer: Mills) -> bool
     )
 }
 
-// The first of the tests of refusals 4, 9, 10 and 11 that applies, 0 if none.
-fn first_refusal(symbol: bool, settings: bool, market: bool, quote: bool) -> u64
-    ensures { λ r. ⌜ r ≡ firstOf ((symbol, 4) ∷ (settings, 9) ∷ (market, 10) ∷ (quote, 11) ∷ []) ⌝ }
-{
-    let others = pick(settings, 9, pick(market, 10, pick(quote, 11, 0)));
-    pick(symbol, 4, others)
-}
-
 // The symbol is read once.
 pub fn read_quote(symbol: &[u8], bid: Mills, offer: Mills, st: Settings, m: Market) -> QuoteRead
     ensures { λ r. ⌜ IsQuoteRead st m (now (symbol .entry)) bid offer r ⌝ }
@@ -51,6 +42,7 @@ pub fn read_quote(symbol: &[u8], bid: Mills, offer: Mills, st: Settings, m: Mark
     if symbol.len() != 21 {
         return QuoteRead {
             number: 1,
+            root: 0,
             series: Series {
                 call: false,
                 expiry: 0,
@@ -61,14 +53,13 @@ pub fn read_quote(symbol: &[u8], bid: Mills, offer: Mills, st: Settings, m: Mark
     let p = parts_of(symbol);
     let good = is_symbol(symbol, p);
     let series = series_of(p);
-    let number = first_refusal(
-        negated(good),
-        negated(settings_hold(st)),
-        negated(market_holds(m)),
-        is_bad_quote(bid, offer),
-    );
+    let n = otherwise(0, negated(good), 4);
+    let n = otherwise(n, negated(settings_hold(st)), 9);
+    let n = otherwise(n, negated(market_holds(m)), 10);
+    let n = otherwise(n, is_bad_quote(bid, offer), 11);
     QuoteRead {
-        number: number,
+        number: n,
+        root: p.root,
         series: series,
     }
 }

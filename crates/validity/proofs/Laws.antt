@@ -1,28 +1,30 @@
 -- The first refusal, test by test, and what an order has that none refuses.
-use mathlib.Core.Path.{_≡_, refl}
+use mathlib.Core.Path.{_≡_, refl, sym, _∙_}
 use mathlib.Core.List.{List, [], _∷_}
-use mathlib.Core.Bool.{Bool, true, false, not, _&&_}
+use mathlib.Core.Bool.{true, false, not, _&&_}
 use Prim.Native.Nat.{ℕ, _≤_, _<_}
 use native.Mathlib.Omega.{arith}
 use lib.Seq.{slice}
 use lib.Dec.{leb}
 use borrow.Author.Tests.{le-leb, lt-leb, not-false}
+use Rattle.rules.specs.declared.Order.{Order}
 use Rattle.rules.specs.declared.RawLeg.{RawLeg}
 use Rattle.rules.specs.declared.Terms.{Terms}
 use Rattle.rules.specs.declared.Settings.{Settings}
 use Rattle.rules.specs.declared.Market.{Market}
 use Rattle.rules.specs.Limits.{within}
 use Rattle.rules.specs.Numerals.{areDigits}
-use Rattle.rules.specs.Lists.{All, any, somePair}
+use Rattle.rules.specs.Lists.{All, any}
 use Rattle.rules.specs.Symbol.{isRoot, inLimits, partsOf, isSymbol}
-use Rattle.rules.specs.Order.{legOf, legsOf}
+use Rattle.rules.specs.Order.{recordLegs, legOf, legsOf, legsIn}
 use Rattle.rules.specs.Market.{settingsHold, marketHolds}
-use Rattle.rules.specs.Numbers.{firstOf, isBadCount, isSameSeries, isOtherRoot, isBadPrice, refusal}
+use Rattle.rules.specs.Numbers.{firstOf, isBadCount, refusals, refusal}
 use Rattle.rules.proofs.Tests.{and-both, and-no, or-neither, within-both}
 use Rattle.rules.proofs.Symbols.{limits}
-use Rattle.rules.proofs.Numbering.{none-applies}
-use Rattle.tags.specs.Legs.{InRange}
-use Rattle.classify.specs.Legs.{IsValidLeg, AreValid}
+use Rattle.chain.proofs.Laws.{none-apply}
+use Rattle.rules.specs.Valid.{InRange, IsValidLeg, AreValid}
+use Rattle.validity.specs.declared.Validated.{Validated}
+use Rattle.validity.specs.Orders.{IsValidated}
 
 -- ---- a leg in its limits
 
@@ -66,28 +68,34 @@ module _ (st : Settings) (m : Market) (t : Terms) (n : ℕ) (rs : List RawLeg) w
   unfolding refusal firstOf
   wrong-length h = rw h
 
-  pub first-test : within 1 16 n ≡ true → {a b c d e f g : Bool}
-      → a ≡ any (λ r. not (isSymbol (r .symbol))) rs
-      → b ≡ any isBadCount rs
-      → c ≡ somePair isSameSeries (legsOf rs)
-      → d ≡ somePair isOtherRoot (legsOf rs)
-      → e ≡ isBadPrice t (legsOf rs)
-      → f ≡ not (settingsHold st)
-      → g ≡ not (marketHolds m)
-      → firstOf ((a, 4) ∷ (b, 5) ∷ (c, 6) ∷ (d, 7) ∷ (e, 8) ∷ (f, 9) ∷ (g, 10) ∷ []) ≡ refusal st m t n rs
-  unfolding refusal firstOf
-  first-test h p q r s u v w = rw (h, p, q, r, s, u, v, w)
-
   -- no test of an order that is not refused applies
-  pub not-refused : refusal st m t n rs ≡ 0 → AreValid (legsOf rs) × (settingsHold st ≡ true) × (marketHolds m ≡ true)
+  not-refused : refusal st m t n rs ≡ 0 → AreValid (legsOf rs) × (settingsHold st ≡ true) × (marketHolds m ≡ true)
   unfolding refusal
-  not-refused h =
-      let a3 = none-applies _ 2 _ h in
-      let a4 = none-applies _ 3 _ (a3 .1) in
-      let a5 = none-applies _ 4 _ (a4 .1) in
-      let a6 = none-applies _ 5 _ (a5 .1) in
-      let a7 = none-applies _ 6 _ (a6 .1) in
-      let a8 = none-applies _ 7 _ (a7 .1) in
-      let a9 = none-applies _ 8 _ (a8 .1) in
-      let a10 = none-applies _ 9 _ (a9 .1) in
-      (record { each = valid-legs rs (a4 .0) (a5 .0); apart = a6 .0; roots = a7 .0 }, not-false _ (a9 .0), not-false _ (a10 .0))
+  not-refused h = go (none-apply (refusals st m t n rs) _ h)
+    where
+      go : All (λ e. e .0 ≡ false) (refusals st m t n rs) → AreValid (legsOf rs) × (settingsHold st ≡ true) × (marketHolds m ≡ true)
+      go (length, (symbols, (counts, (twice, (roots, (price, (settings, (market, _)))))))) =
+          (record { each = valid-legs rs symbols counts; apart = twice; roots = roots }, not-false _ settings, not-false _ market)
+
+-- the order is valid where the number is 0
+pub validated : (st : Settings) (m : Market) (o : Order) (r : Validated)
+    → 1 ≤ o .len
+    → o .len ≤ 16
+    → r .number ≡ refusal st m (o .terms) (o .len) (recordLegs o)
+    → legsIn (r .legs) ≡ legsOf (recordLegs o)
+    → r .legs .len ≡ o .len
+    → IsValidated st m o r
+validated st m o r some few number legs len =
+    record {
+      number = number;
+      valid = λ h.
+          let k = not-refused st m (o .terms) (o .len) (recordLegs o) (sym number ∙ h) in
+          record {
+            legs = legs;
+            len = len;
+            some = some;
+            valid = record { few = rw len few; legs = rw legs (k .0) };
+            settings = k .1;
+            market = k .2;
+          };
+    }

@@ -8,7 +8,7 @@ use Rattle.rules.specs.declared.Market.{Market}
 use Rattle.rules.specs.Order.{recordLegs, legsOf, legsIn}
 use Rattle.rules.specs.Market.{settingsHold, marketHolds}
 use Rattle.rules.specs.Numbers.{refusal}
-use Rattle.classify.specs.Legs.{Valid}
+use Rattle.rules.specs.Valid.{Valid}
 use Rattle.validity.specs.declared.Validated.{Validated}
 
 -- what a valid order has: the legs as read, and settings and market in their limits

@@ -18,4 +18,4 @@ returns c =
     (rw (c .smaller .ensures, c .before .greater .ensures), omega (arith, c .smaller .ensures, settings-bounds (s .args .st) (s .pre .0) .presetmaximum))
 
 pub allowance-spec : {M : Type 1} → statement M
-allowance-spec = tie.close (tie.spec mul-share (λ c κs. tt) (λ c κs. tt) returns)
+allowance-spec = tie.close (tie.spec mul-share _ _ returns)

@@ -7,13 +7,4 @@ returns : tie.Need-returns
 returns c = let a = c .before .before .before .before .before .before .before .args in debit-credit-read (a .t) (a .class) (c .before .before .before .before .before .before .is-negative .ensures) (c .before .before .before .before .before .is-positive .ensures) (c .before .before .before .both .ensures) (c .before .before .both2 .ensures) (c .before .both3 .ensures) (c .either .ensures)
 
 pub debit-credit-spec : {M : Type 1} → statement M
-debit-credit-spec =
-    tie.close
-    (tie.spec
-    (λ c κs. tt)
-    (λ c κs. tt)
-    (λ c κs. tt)
-    (λ c κs. tt)
-    (λ c κs. tt)
-    (λ c κs. tt)
-    returns)
+debit-credit-spec = tie.close (tie.spec _ _ _ _ _ _ returns)

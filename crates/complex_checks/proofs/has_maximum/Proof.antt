@@ -6,4 +6,4 @@ returns : tie.Need-returns
 returns c = rw (c .either2 .ensures, c .before .either .ensures)
 
 pub has-maximum-spec : {M : Type 1} → statement M
-has-maximum-spec = tie.close (tie.spec (λ c κs. tt) (λ c κs. tt) returns)
+has-maximum-spec = tie.close (tie.spec _ _ returns)

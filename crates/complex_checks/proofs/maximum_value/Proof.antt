@@ -18,12 +18,4 @@ returns-2 : tie.Need-returns-2
 returns-2 c = let s = c .before .before in maximum-untested (s .args .st) (s .args .t) (legsIn (s .args .us)) (s .pre .1) (c .before .has-maximum .ensures) (c .if1 .left)
 
 pub maximum-value-spec : {M : Type 1} → statement M
-maximum-value-spec =
-    tie.close
-    (tie.spec
-    (λ c κs. tt)
-    (λ c κs. tt)
-    allowance-requires
-    add-result
-    returns
-    returns-2)
+maximum-value-spec = tie.close (tie.spec _ _ allowance-requires add-result returns returns-2)

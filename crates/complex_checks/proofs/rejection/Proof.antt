@@ -1,40 +1,30 @@
--- The first check that applies, of the three and their switches.
-use mathlib.Core.Path.{_≡_, sym, _∙_}
-use mathlib.Core.Bool.{true}
-use native.Mathlib.Omega.{arith}
-use lib.ListN.{length, length-map}
-use Rattle.rules.specs.Order.{isYes, legsIn, isComplex}
-use Rattle.buy_buy.proofs.Laws.{complex-take}
-use Rattle.rules.proofs.Numbering.{switched}
-use Rattle.complex_checks.proofs.Laws.{several}
+-- The definition's checks, one after another: those of simple orders do not apply to complex ones.
+use mathlib.Core.Path.{_∙_}
+use Rattle.rules.specs.Order.{isYes}
+use Rattle.rules.specs.Checks.{putTest, callTest}
+use Rattle.rules.specs.Numbers.{rejection}
+use Rattle.chain.proofs.Laws.{passed, chained}
+use Rattle.complex_checks.proofs.Laws.{no-simple-buy, no-tick-distance}
 use borrow.Author.Needs.{needs}
 use Rattle.complex_checks.proofs.rejection.Statement.{statement}
 use Rattle.complex_checks.proofs.rejection.Tie as tie
 
-complex : (c : tie.Start) → isComplex (legsIn (c .args .us)) ≡ true
-complex c =
-    let e : length (c .args .us .legs) ≡ 16 = sym (length-map (c .args .us .legs) _) ∙ c .good .1 .1 .0 .1 .1 .0 .1 .0 .1 in
-    complex-take (c .args .us .legs) (c .args .us .len) (c .pre .0 .two) (omega (arith, e, c .pre .0 .few))
-
 returns : tie.Need-returns
-returns c =
-    let s = c .before .before .before .before .before .before .before .before .before .before in
-    let a = s .args in
-    several (a .st) (a .t) (legsIn (a .us)) (a .class) (complex s)
-    (switched (isYes (a .st .check22)) (c .before .before .before .before .before .before .before .before .buy-buy .ensures) (c .before .before .before .before .before .before .before .both .ensures))
-    (switched (isYes (a .st .check23)) (c .before .before .before .before .before .debit-credit .ensures _ (complex s)) (c .before .before .before .before .both2 .ensures))
-    (switched (isYes (a .st .check24)) (c .before .before .maximum-value .ensures) (c .before .both3 .ensures))
-    (c .first-of-three .ensures)
+unfolding rejection
+returns c m =
+    let signs = c .before .before .before in
+    let sums = signs .before .before .before in
+    let s = sums .before .before .before in
+    let st = s .args .st in
+    let t = s .args .t in
+    let none = s .pre .0 .complex in
+    chained _ _
+    (passed (no-simple-buy t _ none (isYes (st .check20)) putTest) _ 20 _
+    ∙ passed (no-simple-buy t _ none (isYes (st .check21)) (callTest (isYes (st .adjusted)) m)) _ 21 _
+    ∙ sums .checked .ensures _ (sums .before .buy-buy .ensures) _
+    ∙ signs .checked2 .ensures _ (signs .before .debit-credit .ensures _ none) _
+    ∙ c .checked3 .ensures _ (c .before .maximum-value .ensures) _
+    ∙ passed (no-tick-distance t _ none (isYes (st .check25)) st m) _ 25 _)
 
 pub rejection-spec : {M : Type 1} → statement M
-rejection-spec =
-    tie.close
-    (tie.spec
-    (λ c κs. search needs)
-    (λ c κs. tt)
-    (λ c κs. tt)
-    (λ c κs. tt)
-    (λ c κs. search needs)
-    (λ c κs. tt)
-    (λ c κs. tt)
-    returns)
+rejection-spec = tie.close (tie.spec (λ c κs. search needs) _ _ _ (λ c κs. search needs) _ returns)

@@ -16,8 +16,7 @@ rejection-requires : tie.Need-rejection-requires
 rejection-requires c κs =
     let s = c .before .before .before in
     let k = c .before .classify .ensures in
-    let v = valid-sorted _ (s .pre .1 .legs) in
-    (
+    let v = valid-sorted _ (s .pre .1 .legs) in (
       record {
         settings = s .pre .0;
         complex = rw (k .counts) (ap not (units-simple (s .args .t) (legsIn (s .args .l))) ∙ s .pre .3);

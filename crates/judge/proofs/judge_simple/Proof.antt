@@ -15,7 +15,7 @@ returns c =
     answer number class refl refl ∙ sym (judged-one (a .st) (a .m) (a .t) (a .x) (s .pre .2))
 
 rejection-requires : tie.Need-rejection-requires
-rejection-requires c κs = let s = c .before .before in (s .pre .0, s .pre .1, simple-same _ _ _ refl ∙ s .pre .3)
+rejection-requires c κs = let s = c .before in (s .pre .0, s .pre .1, simple-same _ _ _ refl ∙ s .pre .3)
 
 pub judge-simple-spec : {M : Type 1} → statement M
 judge-simple-spec = tie.close (tie.spec rejection-requires (λ c κs. tt) returns)

@@ -1,36 +1,24 @@
--- The definition's five tests, in another grouping.
-use mathlib.Core.Path.{_≡_, refl}
-use mathlib.Core.List.{[], _∷_}
-use mathlib.Core.Bool.{Bool, true, false, not, _&&_}
-use lib.Dec.{eqb, ltb, leb}
-use Rattle.rules.specs.Lists.{every}
+-- The definition's tests, one after another; the last is asked for its absence.
+use mathlib.Core.Path.{refl, sym, _∙_}
+use mathlib.Core.Bool.{Bool·not-not}
 use Rattle.rules.specs.Checks.{callTest}
+use Rattle.chain.proofs.Laws.{all-held}
 use Rattle.put_call.proofs.call_test.Statement.{statement}
 use Rattle.put_call.proofs.call_test.Tie as tie
-
--- the last is asked for its absence
-grouped : (call known above plain usual : Bool) → call && ((known && above) && (plain && usual)) ≡ every (call ∷ known ∷ above ∷ plain ∷ not (not usual) ∷ [])
-unfolding every
-grouped false known above plain usual = refl
-grouped true false above plain usual = refl
-grouped true true false plain usual = refl
-grouped true true true false usual = refl
-grouped true true true true false = refl
-grouped true true true true true = refl
 
 returns : tie.Need-returns
 unfolding callTest
 returns c =
-    let a = c .before .before .before .before .before .before .before .before .before .args in
-    cc (grouped (a .s .call) (ltb 0 (a .m .underlying .0)) (leb (a .m .underlying .0) (a .paid .0)) (not (a .adjusted)) (eqb (a .m .extended) 0))
+    let adjusted = c .before .before in
+    let above = adjusted .before .before in
+    let known = above .before .before .before in
+    let call = known .before .before in
+    all-held _ _
+    (call .also .ensures _ refl _
+    ∙ known .also2 .ensures _ refl _
+    ∙ above .also3 .ensures _ refl _
+    ∙ adjusted .also4 .ensures _ (adjusted .before .negated .ensures) _
+    ∙ c .also5 .ensures _ (sym (Bool·not-not _)) _)
 
 pub call-test-spec : {M : Type 1} → statement M
-call-test-spec =
-    tie.close
-    (tie.spec
-    (λ c κs. tt)
-    (λ c κs. tt)
-    (λ c κs. tt)
-    (λ c κs. tt)
-    (λ c κs. tt)
-    returns)
+call-test-spec = tie.close (tie.spec _ _ _ _ _ _ returns)

@@ -8,4 +8,4 @@ unfolding putTest
 returns c = rw (c .both .ensures, c .before .before .before .negated .ensures)
 
 pub put-test-spec : {M : Type 1} → statement M
-put-test-spec = tie.close (tie.spec (λ c κs. tt) (λ c κs. tt) returns)
+put-test-spec = tie.close (tie.spec _ _ returns)

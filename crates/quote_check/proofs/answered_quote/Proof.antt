@@ -6,4 +6,4 @@ returns : tie.Need-returns
 returns c = rw (c .pick .ensures, c .before .both .ensures)
 
 pub answered-quote-spec : {M : Type 1} → statement M
-answered-quote-spec = tie.close (tie.spec (λ c κs. tt) (λ c κs. tt) returns)
+answered-quote-spec = tie.close (tie.spec _ _ returns)

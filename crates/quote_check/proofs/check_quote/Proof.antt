@@ -23,5 +23,4 @@ returns-2 c =
     ∙ quote-valid _ _ _ _ _ _ _ (q .number) left
 
 pub check-quote-spec : {M : Type 1} → statement M
-check-quote-spec =
-    tie.close (tie.spec (λ c κs. tt) returns rejection-requires (λ c κs. tt) returns-2)
+check-quote-spec = tie.close (tie.spec _ returns rejection-requires _ returns-2)

@@ -1,29 +1,20 @@
--- The first check that applies, of the three and their switches.
-use Rattle.rules.specs.Order.{isYes}
-use Rattle.rules.proofs.Numbering.{switched}
-use Rattle.quote_check.proofs.Laws.{first-test}
+-- The definition's checks, one after another.
+use mathlib.Core.Path.{_∙_}
 use borrow.Author.Needs.{needs}
+use Rattle.rules.specs.Quote.{quoteRejection}
+use Rattle.chain.proofs.Laws.{chained}
 use Rattle.quote_check.proofs.rejection.Statement.{statement}
 use Rattle.quote_check.proofs.rejection.Tie as tie
 
 returns : tie.Need-returns
+unfolding quoteRejection
 returns c =
-    let a = c .before .before .before .before .before .before .before .before .before .before .args in
-    first-test (a .st) (a .m) (a .s) (a .bid) (a .offer)
-    (switched (isYes (a .st .check20)) (c .before .before .before .before .before .before .before .before .put-test .ensures) (c .before .before .before .before .before .before .before .both .ensures))
-    (switched (isYes (a .st .check21)) (c .before .before .before .before .before .call-test .ensures) (c .before .before .before .before .both2 .ensures))
-    (switched (isYes (a .st .check26)) (c .before .before .quote-inversion .ensures) (c .before .both3 .ensures))
-    (c .first-of-three .ensures)
+    let call = c .before .before .before in
+    let put = call .before .before .before .before in
+    chained _ _
+    (put .checked .ensures _ (put .before .put-test .ensures) _
+    ∙ call .checked2 .ensures _ (call .before .call-test .ensures) _
+    ∙ c .checked3 .ensures _ (c .before .quote-inversion .ensures) _)
 
 pub rejection-spec : {M : Type 1} → statement M
-rejection-spec =
-    tie.close
-    (tie.spec
-    (λ c κs. tt)
-    (λ c κs. tt)
-    (λ c κs. tt)
-    (λ c κs. tt)
-    (λ c κs. search needs)
-    (λ c κs. tt)
-    (λ c κs. tt)
-    returns)
+rejection-spec = tie.close (tie.spec _ _ _ _ (λ c κs. search needs) _ returns)

@@ -10,14 +10,4 @@ returns c =
     rw (c .either2 .ensures, c .before .negated3 .ensures, e .either .ensures, e .before .negated2 .ensures, e .before .before .within2 .ensures, e .before .before .before .negated .ensures, e .before .before .before .before .within .ensures)
 
 pub is-bad-quote-spec : {M : Type 1} → statement M
-is-bad-quote-spec =
-    tie.close
-    (tie.spec
-    (λ c κs. tt)
-    (λ c κs. tt)
-    (λ c κs. tt)
-    (λ c κs. tt)
-    (λ c κs. tt)
-    (λ c κs. tt)
-    (λ c κs. tt)
-    returns)
+is-bad-quote-spec = tie.close (tie.spec _ _ _ _ _ _ _ returns)

@@ -13,11 +13,4 @@ unfolding isTooFar
 returns c = rw (c .both .ensures, c .before .is-beyond .ensures, c .before .before .before .limit-distance .ensures .0, c .before .before .before .before .reference .ensures)
 
 pub is-too-far-spec : {M : Type 1} → statement M
-is-too-far-spec =
-    tie.close
-    (tie.spec
-    (λ c κs. search needs)
-    (λ c κs. search needs)
-    is-beyond-requires
-    (λ c κs. tt)
-    returns)
+is-too-far-spec = tie.close (tie.spec (λ c κs. search needs) (λ c κs. search needs) is-beyond-requires _ returns)

@@ -17,10 +17,4 @@ returns c =
     (e, rw e (distance-bound (acceptableTicks (s .args .st) (s .args .r)) (tickAt (s .args .st) (s .args .r)) (acceptable-bound (s .args .st) (s .args .r) (s .pre)) (tick-bound (s .args .st) (s .args .r) (s .pre))))
 
 pub limit-distance-spec : {M : Type 1} → statement M
-limit-distance-spec =
-    tie.close
-    (tie.spec
-    (λ c κs. tt)
-    (λ c κs. tt)
-    distance-requires
-    returns)
+limit-distance-spec = tie.close (tie.spec _ _ distance-requires returns)

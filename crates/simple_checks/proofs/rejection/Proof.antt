@@ -1,29 +1,30 @@
--- The first check that applies, of the three and their switches.
-use Rattle.rules.specs.Order.{isYes}
-use Rattle.rules.proofs.Numbering.{switched}
-use Rattle.simple_checks.proofs.Laws.{one-leg}
+-- The definition's checks, one after another: those of complex orders do not apply to one leg.
+use mathlib.Core.Path.{_∙_}
 use borrow.Author.Needs.{needs}
+use Rattle.rules.specs.Lists.{every}
+use Rattle.rules.specs.Order.{isYes, isSimple}
+use Rattle.rules.specs.Class.{shapeOf}
+use Rattle.rules.specs.Checks.{putTest, callTest, buyBuy, debitCredit, maximumValue}
+use Rattle.rules.specs.Numbers.{rejection}
+use Rattle.rules.proofs.Tests.{and-no}
+use Rattle.chain.proofs.Laws.{passed, chained}
 use Rattle.simple_checks.proofs.rejection.Statement.{statement}
 use Rattle.simple_checks.proofs.rejection.Tie as tie
 
 returns : tie.Need-returns
-returns c =
-    let a = c .before .before .before .before .before .before .before .before .before .before .args in
-    one-leg (a .st) (a .m) (a .t) (a .u)
-    (switched (isYes (a .st .check20)) (c .before .before .before .before .before .before .before .before .put .ensures) (c .before .before .before .before .before .before .before .both .ensures))
-    (switched (isYes (a .st .check21)) (c .before .before .before .before .before .call .ensures) (c .before .before .before .before .both2 .ensures))
-    (switched (isYes (a .st .check25)) (c .before .before .tick-distance .ensures) (c .before .both3 .ensures))
-    (c .first-of-three .ensures)
+unfolding rejection buyBuy debitCredit maximumValue shapeOf every isSimple
+returns c class =
+    let call = c .before .before .before in
+    let put = call .before .before .before in
+    let tests = put .before .before .before in
+    let a = tests .before .before .before .args in
+    chained _ _
+    (put .checked .ensures _ (put .before .simple-buy .ensures putTest (tests .before .before .put-test .ensures)) _
+    ∙ call .checked2 .ensures _ (call .before .simple-buy2 .ensures (callTest (isYes (a .st .adjusted)) (a .m)) (tests .call-test .ensures)) _
+    ∙ passed (and-no (isYes (a .st .check22))) _ 22 _
+    ∙ passed (and-no (isYes (a .st .check23))) _ 23 _
+    ∙ passed (and-no (isYes (a .st .check24))) _ 24 _
+    ∙ c .checked3 .ensures _ (c .before .tick-distance .ensures) _)
 
 pub rejection-spec : {M : Type 1} → statement M
-rejection-spec =
-    tie.close
-    (tie.spec
-    (λ c κs. tt)
-    (λ c κs. tt)
-    (λ c κs. tt)
-    (λ c κs. tt)
-    (λ c κs. search needs)
-    (λ c κs. tt)
-    (λ c κs. tt)
-    returns)
+rejection-spec = tie.close (tie.spec _ _ (λ c κs. search needs) _ (λ c κs. search needs) _ (λ c κs. search needs) _ returns)

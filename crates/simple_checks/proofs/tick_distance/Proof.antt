@@ -1,18 +1,26 @@
--- A simple limit order with neither flag, whose leg is too far.
-use Rattle.simple_checks.proofs.Laws.{far-read}
+-- The definition's tests, one after another; one leg is simple.
+use mathlib.Core.Path.{sym, _∙_}
+use mathlib.Core.Bool.{Bool·not-not}
+use borrow.Author.Needs.{needs}
+use Rattle.rules.specs.Lists.{all}
+use Rattle.rules.specs.Market.{tickDistance}
+use Rattle.rules.proofs.Tests.{and-true}
+use Rattle.chain.proofs.Laws.{already, all-held}
 use Rattle.simple_checks.proofs.tick_distance.Statement.{statement}
 use Rattle.simple_checks.proofs.tick_distance.Tie as tie
-use borrow.Author.Needs.{needs}
 
 returns : tie.Need-returns
-returns c = let a = c .before .before .before .before .before .before .before .args in far-read (a .st) (a .m) (a .t) (a .u) (c .before .before .before .before .both .ensures) (c .before .before .both2 .ensures) (c .before .is-too-far .ensures) (c .both3 .ensures)
+unfolding tickDistance all
+returns c =
+    let manual = c .before .before in
+    let stop = manual .before .before in
+    let kind = stop .before .before in
+    all-held _ _
+    (already (kind .before .before .pre .2) _
+    ∙ kind .also .ensures _ (sym (Bool·not-not _)) _
+    ∙ stop .also2 .ensures _ (sym (Bool·not-not _)) _
+    ∙ manual .also3 .ensures _ (sym (Bool·not-not _)) _
+    ∙ c .also4 .ensures _ (c .before .is-too-far .ensures ∙ sym (and-true _)) _)
 
 pub tick-distance-spec : {M : Type 1} → statement M
-tick-distance-spec =
-    tie.close
-    (tie.spec
-    (λ c κs. search needs)
-    (λ c κs. search needs)
-    (λ c κs. search needs)
-    (λ c κs. search needs)
-    returns)
+tick-distance-spec = tie.close (tie.spec _ _ _ (λ c κs. search needs) _ returns)

@@ -4,9 +4,9 @@ use Prim.Native.Nat.{_≤_}
 use mathlib.Core.Path.{sym, ap, _∙_}
 use mathlib.Core.Bool.{not}
 use Rattle.rules.specs.Lists.{somePair}
-use Rattle.rules.specs.Order.{recordLegs}
-use Rattle.rules.specs.Numbers.{isSameSeries, isOtherRoot, isBadPrice}
-use Rattle.validity.proofs.Laws.{below, above, inside, wrong-length, first-test, not-refused}
+use Rattle.rules.specs.Numbers.{isSameSeries, isOtherRoot, isBadPrice, refusal}
+use Rattle.chain.proofs.Laws.{passed, chained}
+use Rattle.validity.proofs.Laws.{below, above, inside, wrong-length, validated}
 use borrow.Author.Needs.{needs}
 use Rattle.validity.proofs.validate.Statement.{statement}
 use Rattle.validity.proofs.validate.Tie as tie
@@ -22,51 +22,31 @@ returns-2 c =
     record { number = c .no-legs2 .ensures ∙ sym e; valid = λ h. absurd (omega (arith, h, c .no-legs2 .ensures)) }
 
 returns-3 : tie.Need-returns-3
+unfolding refusal
 returns-3 c =
-    let s = c .before .before .before .before .before .before .before .before .before .before .before .before .before .before in
-    let o = s .args .o in
-    let read = c .before .before .before .before .before .before .before .before .before .before .legs-of .ensures in
-    let legs = read .legs in
-    let some : 1 ≤ o .len = omega (arith, c .before .before .before .before .before .before .before .before .before .before .before .before .before .if1 .left) in
-    let few : o .len ≤ 16 = omega (arith, c .before .before .before .before .before .before .before .before .before .before .before .before .if2 .left) in
-    let number = c .first-refusal .ensures ∙ first-test (s .args .st) (s .args .m) (o .terms) (o .len) (recordLegs o) (inside (o .len) some few)
-    (read .bad)
-    (c .before .before .before .before .before .before .before .before .some-bad-count .ensures)
-    (c .before .before .before .before .before .before .before .some-series-twice .ensures ∙ ap (somePair isSameSeries) legs)
-    (c .before .before .before .before .before .before .some-other-root .ensures ∙ ap (somePair isOtherRoot) legs)
-    (c .before .before .before .before .before .is-bad-price .ensures ∙ ap (isBadPrice (o .terms)) legs)
-    (c .before .before .before .negated .ensures ∙ ap not (c .before .before .before .before .settings-hold .ensures))
-    (c .before .negated2 .ensures ∙ ap not (c .before .before .market-holds .ensures)) in
-    record {
-      number = number;
-      valid = λ h.
-          let k = not-refused (s .args .st) (s .args .m) (o .terms) (o .len) (recordLegs o) (sym number ∙ h) in
-          record {
-            legs = legs;
-            len = read .len;
-            some = some;
-            valid = record { few = rw (read .len) few; legs = rw legs (k .0) };
-            settings = k .1;
-            market = k .2;
-          };
-    }
+    let settings = c .before .before .before in
+    let price = settings .before .before .before in
+    let roots = price .before .before in
+    let twice = roots .before .before in
+    let counts = twice .before .before in
+    let symbols = counts .before .before in
+    let read = symbols .before .before in
+    let s = read .before .before .before .before in
+    let legs = read .legs-of .ensures .legs in
+    let some : 1 ≤ s .args .o .len = omega (arith, read .before .before .before .if1 .left) in
+    let few : s .args .o .len ≤ 16 = omega (arith, read .before .before .if2 .left) in
+    validated (s .args .st) (s .args .m) (s .args .o) _ some few
+    (chained _ _
+    (passed (ap not (inside _ some few)) _ 3 _
+    ∙ symbols .otherwise .ensures _ (read .legs-of .ensures .bad) _
+    ∙ counts .otherwise2 .ensures _ (counts .before .some-bad-count .ensures) _
+    ∙ twice .otherwise3 .ensures _ (twice .before .some-series-twice .ensures ∙ ap (somePair isSameSeries) legs) _
+    ∙ roots .otherwise4 .ensures _ (roots .before .some-other-root .ensures ∙ ap (somePair isOtherRoot) legs) _
+    ∙ price .otherwise5 .ensures _ (price .before .is-bad-price .ensures ∙ ap (isBadPrice (s .args .o .terms)) legs) _
+    ∙ settings .otherwise6 .ensures _ (settings .before .negated .ensures ∙ ap not (settings .before .before .settings-hold .ensures)) _
+    ∙ c .otherwise7 .ensures _ (c .before .negated2 .ensures ∙ ap not (c .before .before .market-holds .ensures)) _))
+    legs
+    (read .legs-of .ensures .len)
 
 pub validate-spec : {M : Type 1} → statement M
-validate-spec =
-    tie.close
-    (tie.spec
-    (λ c κs. tt)
-    returns
-    (λ c κs. tt)
-    returns-2
-    (λ c κs. search needs)
-    (λ c κs. search needs)
-    (λ c κs. search needs)
-    (λ c κs. search needs)
-    (λ c κs. search needs)
-    (λ c κs. tt)
-    (λ c κs. tt)
-    (λ c κs. tt)
-    (λ c κs. tt)
-    (λ c κs. tt)
-    returns-3)
+validate-spec = tie.close (tie.spec _ returns _ returns-2 (λ c κs. search needs) _ (λ c κs. search needs) _ (λ c κs. search needs) _ (λ c κs. search needs) _ (λ c κs. search needs) _ _ _ _ _ _ _ returns-3)

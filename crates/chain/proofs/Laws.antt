@@ -1,0 +1,58 @@
+-- Lists of tests, the first taken off.
+use mathlib.Core.Path.{_≡_, refl, sym, _∙_}
+use mathlib.Core.List.{List, [], _∷_}
+use mathlib.Core.Bool.{Bool, true, false, cond, _&&_}
+use Prim.Native.Nat.{ℕ, zero, suc}
+use native.Mathlib.Omega.{arith}
+use lib.Dec.{eqb}
+use borrow.Author.Tests.{ne-eqb}
+use Rattle.rules.specs.Lists.{All, every}
+use Rattle.rules.specs.Numbers.{firstOf}
+use Rattle.rules.proofs.Tests.{and-true}
+use Rattle.chain.specs.Chain.{after, IsSome}
+
+-- ---- the first number whose test applies
+
+pub tried : (found : ℕ) (b : Bool) (number : ℕ) → IsSome number → (es : List (Bool × ℕ)) → after found ((b, number) ∷ es) ≡ after (cond (eqb found 0) (cond b number 0) found) es
+unfolding after firstOf
+tried zero true zero h es = absurd h
+tried zero true (suc n) h es = refl
+tried zero false number h es = refl
+tried (suc found) b number h es = rw (ne-eqb (suc found) 0 (λ e. omega arith))
+
+-- a test that does not apply, and has no code
+pub passed : {b : Bool} → b ≡ false → (found number : ℕ) (es : List (Bool × ℕ)) → after found ((b, number) ∷ es) ≡ after found es
+unfolding after firstOf
+passed h zero number es = rw h
+passed h (suc found) number es = refl
+
+-- every test tried
+pub chained : (r : ℕ) (es : List (Bool × ℕ)) → after 0 es ≡ after r [] → r ≡ firstOf es
+unfolding after firstOf
+chained zero es e = sym e
+chained (suc r) es e = sym e
+
+-- no test of a list that gives no number applies
+pub none-apply : (es : List (Bool × ℕ)) → All (λ e. IsSome (e .1)) es → firstOf es ≡ 0 → All (λ e. e .0 ≡ false) es
+unfolding firstOf
+none-apply [] s h = tt
+none-apply ((true, zero) ∷ es) s h = absurd (s .0)
+none-apply ((true, suc n) ∷ es) s h = absurd (omega arith)
+none-apply ((false, n) ∷ es) s h = (refl, none-apply es (s .1) h)
+
+-- ---- whether every test holds
+
+pub one-more : (held b : Bool) (bs : List Bool) → held && every (b ∷ bs) ≡ (held && b) && every bs
+unfolding every
+one-more true b bs = refl
+one-more false b bs = refl
+
+-- a test that holds, and has no code
+pub already : {b : Bool} → b ≡ true → (bs : List Bool) → every (b ∷ bs) ≡ every bs
+unfolding every
+already h bs = rw h
+
+-- every test tried
+pub all-held : (r : Bool) (bs : List Bool) → every bs ≡ r && every [] → r ≡ every bs
+unfolding every
+all-held r bs e = sym (e ∙ and-true r)
