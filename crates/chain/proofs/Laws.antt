@@ -13,7 +13,7 @@ use Rattle.chain.specs.Chain.{after, IsSome}
 
 -- ---- the first number whose test applies
 
-pub tried : (found : ℕ) (b : Bool) (number : ℕ) → IsSome number → (es : List (Bool × ℕ)) → after found ((b, number) ∷ es) ≡ after (cond (eqb found 0) (cond b number 0) found) es
+pub tried : (found : ℕ) (b : Bool) (number : ℕ) → IsSome number → (es : List (Bool × ℕ)) → after found ((b, number) ∷ es) ≡ after (cond (eqb found 0 && b) number found) es
 unfolding after firstOf
 tried zero true zero h es = absurd h
 tried zero true (suc n) h es = refl

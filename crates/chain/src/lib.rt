@@ -13,7 +13,7 @@ pub fn otherwise(found: u64, test: bool, number: u64) -> u64
     requires { ⌜ IsSome number ⌝ }
     ensures { λ r. ⌜ ((b : Bool) → test ≡ b → (es : List (Bool × ℕ)) → after found ((b, number) ∷ es) ≡ after r es) ⌝ }
 {
-    pick(found == 0, pick(test, number, 0), found)
+    pick(both(found == 0, test), number, found)
 }
 
 // The same of a check, which applies only where its switch is on.
