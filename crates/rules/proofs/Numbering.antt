@@ -42,10 +42,6 @@ unfolding firstOf
 none-applies true n es h = absurd (omega arith)
 none-applies false n es h = (refl, h)
 
--- a check with its switch is the definition's where the check is
-pub switched : (on : Bool) {p q b : Bool} → p ≡ q → b ≡ on && p → b ≡ on && q
-switched on e f = cc
-
 -- the numbers rise from `n`
 abbrev rises : ℕ → List (Bool × ℕ) → Bool
 rises n [] = true
