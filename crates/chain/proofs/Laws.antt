@@ -6,7 +6,7 @@ use Prim.Native.Nat.{ℕ, zero, suc}
 use native.Mathlib.Omega.{arith}
 use lib.Dec.{eqb}
 use borrow.Author.Tests.{ne-eqb}
-use Rattle.rules.specs.Lists.{All, every}
+use Rattle.rules.specs.Lists.{every}
 use Rattle.rules.specs.Numbers.{firstOf}
 use Rattle.rules.proofs.Tests.{and-true}
 use Rattle.chain.specs.Chain.{after, IsSome}
@@ -31,14 +31,6 @@ pub chained : (r : ℕ) (es : List (Bool × ℕ)) → after 0 es ≡ after r [] 
 unfolding after firstOf
 chained zero es e = sym e
 chained (suc r) es e = sym e
-
--- no test of a list that gives no number applies
-pub none-apply : (es : List (Bool × ℕ)) → All (λ e. IsSome (e .1)) es → firstOf es ≡ 0 → All (λ e. e .0 ≡ false) es
-unfolding firstOf
-none-apply [] s h = tt
-none-apply ((true, zero) ∷ es) s h = absurd (s .0)
-none-apply ((true, suc n) ∷ es) s h = absurd (omega arith)
-none-apply ((false, n) ∷ es) s h = (refl, none-apply es (s .1) h)
 
 -- ---- whether every test holds
 

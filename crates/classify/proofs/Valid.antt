@@ -21,7 +21,7 @@ use Rattle.rules.proofs.Sequence.{by-strike-is-perm, same-series-turn, other-ro
 use Rattle.sorting.specs.Keys.{EachTwo}
 use Rattle.sorting.proofs.Laws.{each-two-with, each-two-fail}
 use Rattle.walk.specs.Tags.{seriesAt}
-use Rattle.rules.specs.Valid.{InRange, IsValidLeg, AreValid, Valid}
+use Rattle.rules.specs.Valid.{InRange, IsValidLeg, AreValid, ValidLegs}
 use Rattle.tags.specs.Legs.{AllInRange}
 use Rattle.pairing.specs.Both.{Walkable}
 use Rattle.pairing.proofs.Back.{back}
@@ -116,14 +116,14 @@ all-ranges : (ls : List Leg) → All IsValidLeg ls → All (λ x. InRange (x .se
 all-ranges [] h = tt
 all-ranges (x ∷ ls) h = (h .0 .series, all-ranges ls (h .1))
 
-in-range : (l : Legs) → Valid l → AllInRange l
+in-range : (l : Legs) → ValidLegs l → AllInRange l
 in-range l v =
     record {
       few = v .few;
       each = λ i h. rw (← getD-take (l .len) (l .legs) i noLeg h) (all-at (λ x. InRange (x .series)) noLeg (legsIn l) (all-ranges (legsIn l) (v .legs .each)) (record { expiry = omega arith; strike = omega arith }) i);
     }
 
-pub sortable : (l : Legs) → Valid l → AllInRange l × EachTwo (λ x y. strikeKey (x .series) ≡ strikeKey (y .series) → ⊥) (legsIn l)
+pub sortable : (l : Legs) → ValidLegs l → AllInRange l × EachTwo (λ x y. strikeKey (x .series) ≡ strikeKey (y .series) → ⊥) (legsIn l)
 sortable l v = (in-range l v, keys-apart strikeKey (seriesAt false) back (legsIn l) (v .legs))
 
 first-of : (n : ℕ) (xs : List Leg) → All (λ y. y .root ≡ getD (take n xs) 0 noLeg .root) (take n xs) → All (λ y. y .root ≡ getD xs 0 noLeg .root) (take n xs)
@@ -131,7 +131,7 @@ first-of zero xs h = tt
 first-of (suc n) [] h = tt
 first-of (suc n) (x ∷ xs) h = h
 
-pub walkable : (l : Legs) → Valid l → Walkable l
+pub walkable : (l : Legs) → ValidLegs l → Walkable l
 walkable l v =
     record {
       range = in-range l v;
@@ -144,5 +144,5 @@ all-positive [] h = tt
 all-positive (x ∷ ls) h = (h .0 .least, all-positive ls (h .1))
 
 -- the legs that the sort returns
-pub sorted-valid : (l r : Legs) → Valid l → legsIn r ≡ byStrike (legsIn l) → r .len ≡ l .len → Valid r
+pub sorted-valid : (l r : Legs) → ValidLegs l → legsIn r ≡ byStrike (legsIn l) → r .len ≡ l .len → ValidLegs r
 sorted-valid l r v e n = record { few = rw n (v .few); legs = rw e (valid-sorted (legsIn l) (v .legs)) }

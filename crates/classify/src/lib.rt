@@ -5,7 +5,7 @@ use rules::Legs;
 use sequence::by_strike;
 use shape::shape_of;
 use unit_counts::units;
-ghost use Rattle.rules.specs.Valid.{Valid};
+ghost use Rattle.rules.specs.Valid.{ValidLegs};
 ghost use Rattle.classify.specs.Legs.{IsClassified};
 
 pub struct Classified {
@@ -18,7 +18,7 @@ pub struct Classified {
 
 // The legs may come in any sequence: they are sorted here.
 pub fn classify(l: Legs, european: bool) -> Classified
-    requires { ⌜ Valid l ⌝ }
+    requires { ⌜ ValidLegs l ⌝ }
     ensures { λ r. ⌜ IsClassified european l r ⌝ }
 {
     let sorted = by_strike(l);

@@ -6,8 +6,6 @@ use rules::Settings;
 use rules::Terms;
 use rules::Ticks;
 ghost use mathlib.Core.Path.{_≡_};
-ghost use mathlib.Core.List.{[], _∷_};
-ghost use Prim.Native.Nat.{_≤_};
 ghost use lib.ListN.{length};
 ghost use Rattle.rules.specs.Order.{priceOf, termsOf};
 ghost use Rattle.rules.specs.Market.{settingsFrom, settingsOf, marketFrom, marketOf};

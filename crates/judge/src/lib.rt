@@ -16,7 +16,7 @@ ghost use Rattle.rules.specs.Order.{legsIn, isSimple, isComplex};
 ghost use Rattle.rules.specs.Pairing.{byStrike};
 ghost use Rattle.rules.specs.Market.{settingsHold, marketHolds};
 ghost use Rattle.rules.specs.Numbers.{judged};
-ghost use Rattle.rules.specs.Valid.{Valid};
+ghost use Rattle.rules.specs.Valid.{ValidLegs};
 
 // An order of one leg has nothing to sort, to divide or to pair.
 fn judge_simple(st: Settings, m: Market, t: Terms, x: Leg) -> OrderAnswer
@@ -40,7 +40,7 @@ fn judge_simple(st: Settings, m: Market, t: Terms, x: Leg) -> OrderAnswer
 
 // No check of a complex order asks for the market.
 fn judge_complex(st: Settings, t: Terms, l: Legs) -> OrderAnswer
-    requires { ⌜ (settingsHold st ≡ true) × Valid l × (1 ≤ l .len) × (isComplex t (legsIn l) ≡ true) ⌝ }
+    requires { ⌜ (settingsHold st ≡ true) × ValidLegs l × (1 ≤ l .len) × (isComplex t (legsIn l) ≡ true) ⌝ }
     ensures { λ r. ⌜ ((m : Market) → r ≡ judged st m t (byStrike (legsIn l))) ⌝ }
 {
     let c = classify(l, st.european != 0);
@@ -55,7 +55,7 @@ fn judge_complex(st: Settings, t: Terms, l: Legs) -> OrderAnswer
 
 // The legs may come in any sequence.
 pub fn judge(st: Settings, m: Market, t: Terms, l: Legs) -> OrderAnswer
-    requires { ⌜ (settingsHold st ≡ true) × (marketHolds m ≡ true) × Valid l × (1 ≤ l .len) ⌝ }
+    requires { ⌜ (settingsHold st ≡ true) × (marketHolds m ≡ true) × ValidLegs l × (1 ≤ l .len) ⌝ }
     ensures { λ r. ⌜ r ≡ judged st m t (byStrike (legsIn l)) ⌝ }
 {
     if is_simple(t, l.len) {

@@ -165,4 +165,4 @@ tallied-check t c = tallied-answers t (orderAnswer c) (order-answers c) (isBadTa
 
 pub numbered : Numbered
 unfolding all any
-numbered = record { listed = refl; given = refl; kinds = refl }
+numbered = record { listed = refl; given = refl; kinds = refl; orders = refl; quotes = refl }

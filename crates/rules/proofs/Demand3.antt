@@ -27,7 +27,7 @@ use Rattle.rules.specs.Numbers.{isBadCount, refusals, refusal, rejection
 use Rattle.rules.specs.Demand3.{IsWhole, IsValid, NotRejected, arrival, orderLegs, Arrivals, Demand3}
 use Rattle.rules.proofs.Tests.{and-both, or-either, or-neither, within-both}
 use Rattle.rules.proofs.Sorting.{all-perm, perm-sym, map-perm, length-perm}
-use Rattle.rules.proofs.Numbering.{first-of, first-passes, none-applies}
+use Rattle.rules.proofs.Numbering.{first-of, first-passes, none-apply}
 use Rattle.rules.proofs.Worth.{worth, worth-perm}
 use Rattle.rules.proofs.Units.{Sized, units-perm}
 use Rattle.rules.proofs.Signs.{worth-is, up-sign, down-sign}
@@ -63,12 +63,8 @@ module _ (st : Settings) (m : Market) (t : Terms) (n : ℕ) (rs : List RawLeg) w
       go (suc k) e g = ⊎-elim (λ a. eqb-true (suc k) 0 a) (λ r. absurd (true≢false (sym r ∙ g))) (or-either _ _ e)
 
   sized : refusal st m t n rs ≡ 0 → Sized (legsOf rs)
-  unfolding refusal
-  sized h =
-      let a = none-applies _ 2 _ h in
-      let b = none-applies _ 3 _ (a .1) in
-      let c = none-applies _ 4 _ (b .1) in
-      counted rs (c .0)
+  unfolding refusal all
+  sized h = let (legs, (symbols, (counts, rest))) = none-apply (refusals st m t n rs) refl h in counted rs counts
 
 -- one valid order, its legs `ls` as read, and a fair table for it
 module _ (st : Settings) (m : Market) (t : Terms) (ls : List Leg) (big : Sized ls) (v : Series → ℕ) (fair : Fair st m ls v) where

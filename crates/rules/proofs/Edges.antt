@@ -21,9 +21,11 @@ unfolding all any somePair every lex insert sort value numeral areDigits distanc
 edges = record { shape = refl; expiry = refl; style = refl; simple = refl; complex = refl; maximum = refl; band = refl; reference = refl; unreferenced = refl; flag = refl; switch = refl; refusal = refl; limited = refl; unsigned = refl; settingsRecord = refl; marketRecord = refl; settingsLimits = refl; marketLimits = refl; quotes = refl; inverted = refl; symbols = refl; date = refl; root = refl; written = refl; tallied = refl; broken = refl }
 
 pub reach-is : Reach
+unfolding all
 reach-is =
     record {
       turned = then (swap 1 2 (3 ∷ [])) (then (keep 2 (swap 1 3 [])) (swap 2 3 (1 ∷ [])));
       valid = (refl, (refl, (refl, (refl, (refl, (refl, (refl, tt)))))));
+      refused = refl;
       rejected = ((λ f. f (omega arith) (omega arith)), ((λ f. f (omega arith) (omega arith)), ((λ f. f (omega arith) (omega arith)), ((λ f. f (omega arith) (omega arith)), ((λ f. f (omega arith) (omega arith)), tt)))));
     }

@@ -1,11 +1,11 @@
 -- The first of listed numbers: what holds of each that applies holds of it.
-use mathlib.Core.Path.{_≡_, refl, sym}
+use mathlib.Core.Path.{_≡_, refl, sym, ap, _∙_}
 use mathlib.Core.List.{List, [], _∷_}
-use mathlib.Core.Bool.{Bool, true, false, cond, _&&_, true≢false}
-use Prim.Native.Nat.{ℕ, suc, _≤_}
+use mathlib.Core.Bool.{Bool, true, false, cond, not, _&&_, true≢false}
+use Prim.Native.Nat.{ℕ, _≤_}
 use native.Mathlib.Omega.{arith}
-use lib.Dec.{leb}
-use borrow.Author.Tests.{leb-true}
+use lib.Dec.{eqb, leb}
+use borrow.Author.Tests.{leb-true, eq-eqb}
 use Rattle.rules.specs.Lists.{All, all}
 use Rattle.rules.proofs.Tests.{and-both}
 use Rattle.rules.specs.declared.RawLeg.{RawLeg}
@@ -36,11 +36,12 @@ first-passes f es z h = first-of (λ n. f n ≡ true) es z (each es h)
     each [] k = tt
     each (d ∷ ds) k = let a = and-both (f (d .1)) _ k in ((λ t. a .0), each ds (a .1))
 
--- where none applies, no test passes
-pub none-applies : (b : Bool) (n : ℕ) (es : List (Bool × ℕ)) → firstOf ((b, suc n) ∷ es) ≡ 0 → (b ≡ false) × (firstOf es ≡ 0)
-unfolding firstOf
-none-applies true n es h = absurd (omega arith)
-none-applies false n es h = (refl, h)
+-- no test of a list that gives 0 applies, where 0 is none of its numbers
+pub none-apply : (es : List (Bool × ℕ)) → all (λ n. not (eqb n 0)) (named es) ≡ true → firstOf es ≡ 0 → All (λ e. e .0 ≡ false) es
+unfolding all firstOf
+none-apply [] s h = tt
+none-apply ((true, n) ∷ es) s h = absurd (true≢false (sym (and-both (not (eqb n 0)) _ s .0) ∙ ap not (eq-eqb n 0 h)))
+none-apply ((false, n) ∷ es) s h = (refl, none-apply es (and-both (not (eqb n 0)) _ s .1) h)
 
 -- the numbers rise from `n`
 abbrev rises : ℕ → List (Bool × ℕ) → Bool

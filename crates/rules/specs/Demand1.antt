@@ -102,3 +102,6 @@ pub record Numbered : Type 0 where
   pub listed : all (λ n. any (λ e. eqb n (e .0)) numbers) entryNumbers ≡ true
   pub given : all (λ e. any (eqb (e .0)) entryNumbers) numbers ≡ true
   pub kinds : map (λ e. kindOf (e .0)) numbers ≡ map (λ e. e .1) numbers
+  -- which of them an order and a quote can get, read off document 01 once more
+  pub orders : orderNumbers ≡ 0 ∷ 1 ∷ 3 ∷ 4 ∷ 5 ∷ 6 ∷ 7 ∷ 8 ∷ 9 ∷ 10 ∷ 20 ∷ 21 ∷ 22 ∷ 23 ∷ 24 ∷ 25 ∷ []
+  pub quotes : quoteNumbers ≡ 0 ∷ 1 ∷ 4 ∷ 9 ∷ 10 ∷ 11 ∷ 20 ∷ 21 ∷ 26 ∷ []

@@ -5,7 +5,6 @@ use mathlib.Core.Bool.{Bool, true, false}
 use Prim.Native.Nat.{ℕ, suc, _+_, _-_}
 use lib.ListN.{take, drop}
 use lib.IntN.{ℤ, pos, negℤ}
-use Rattle.rules.specs.declared.Mills.{Mills}
 use Rattle.rules.specs.declared.SymbolParts.{SymbolParts}
 use Rattle.rules.specs.declared.SymbolRead.{SymbolRead}
 use Rattle.rules.specs.declared.Price.{Price}
@@ -15,11 +14,12 @@ use Rattle.rules.specs.declared.Market.{Market}
 use Rattle.rules.specs.declared.OrderAnswer.{OrderAnswer}
 use Rattle.rules.specs.declared.QuoteAnswer.{QuoteAnswer}
 use Rattle.rules.specs.declared.Tally.{Tally}
-use Rattle.rules.specs.Lists.{All, Perm}
+use Rattle.rules.specs.Lists.{All, Perm, all}
 use Rattle.rules.specs.Numerals.{numeral}
 use Rattle.rules.specs.Symbol.{symbolOf, readSymbol, writeSymbol, SymbolWritten}
 use Rattle.rules.specs.Order.{rawLeg, Lent, symbolsOf, countsOf, termsOf}
 use Rattle.rules.specs.Market.{settingsOf, marketOf, settingsHold, marketHolds}
+use Rattle.rules.specs.Kinds.{isRefused}
 use Rattle.rules.specs.Numbers.{checkOrder, checkSlices}
 use Rattle.rules.specs.Quote.{checkQuote}
 use Rattle.rules.specs.Tally.{isBadTally, counted, fresh}
@@ -125,13 +125,13 @@ abbrev market : ℕ → ℕ → ℕ → ℕ → ℕ → ℕ → ℕ → ℕ → 
 market phase elsewhere extended underlying nbb nbo bid offer close =
     marketOf (phase ∷ elsewhere ∷ extended ∷ underlying ∷ nbb ∷ nbo ∷ bid ∷ offer ∷ close ∷ [])
 
--- the numbers with another one at a place
+-- the same slice with another number at one place
 abbrev changed : ℕ → ℕ → List ℕ → List ℕ
 changed i n ns = take i ns ++ (n ∷ drop (suc i) ns)
 
--- the numbers of the examples' settings
-abbrev exampleNumbers : List ℕ
-exampleNumbers = 1 ∷ 1 ∷ 1 ∷ 1 ∷ 1 ∷ 1 ∷ 1 ∷ 10 ∷ 10 ∷ 10 ∷ 5 ∷ 5 ∷ 5 ∷ 5 ∷ 300 ∷ 0 ∷ 600 ∷ 4 ∷ 0 ∷ 0 ∷ []
+-- the examples' settings as the host hands them in
+abbrev exampleSlice : List ℕ
+exampleSlice = 1 ∷ 1 ∷ 1 ∷ 1 ∷ 1 ∷ 1 ∷ 1 ∷ 10 ∷ 10 ∷ 10 ∷ 5 ∷ 5 ∷ 5 ∷ 5 ∷ 300 ∷ 0 ∷ 600 ∷ 4 ∷ 0 ∷ 0 ∷ []
 
 -- European index style: expiries alone are not paired; a vertical is, and beside it a calendar of two loners
 abbrev spread : List Lent
@@ -160,12 +160,16 @@ paid =
     (call21 usual (underlyingOf 10000) (limit (pos 9999)), 0)
     ∷ (call21 usual (underlyingOf 10000) (limit (pos 10000)), 21)
     -- an adjusted class, extended hours: any value but 0
-    ∷ (call21 (settingsOf (changed 18 2 exampleNumbers)) (underlyingOf 10000) (limit (pos 10000)), 0)
+    ∷ (call21 (settingsOf (changed 18 2 exampleSlice)) (underlyingOf 10000) (limit (pos 10000)), 0)
     ∷ (call21 usual (market 1 0 2 10000 0 0 0 0 0) (limit (pos 10000)), 0)
     -- market orders in the opening process, and not; limit orders in it
     ∷ (call21 usual (underlyingOf 10000) (termsOf (pos 10000) 2 0 0 2), 0)
     ∷ (call21 usual (underlyingOf 10000) (termsOf (pos 10000) 2 0 0 0), 21)
     ∷ (call21 usual (underlyingOf 10000) (termsOf (pos 10000) 0 0 0 2), 21)
+    -- European index style, stop and manual orders: tested
+    ∷ (call21 (exampleSettings 2) (underlyingOf 10000) (limit (pos 10000)), 21)
+    ∷ (call21 usual (underlyingOf 10000) (termsOf (pos 10000) 0 2 0 0), 21)
+    ∷ (call21 usual (underlyingOf 10000) (termsOf (pos 10000) 0 0 2 0), 21)
     -- 20: the same
     ∷ (put20 (termsOf (pos 18000) 1 0 0 1), 0)
     ∷ (put20 (termsOf (pos 18000) 1 0 0 0), 20)
@@ -203,15 +207,15 @@ sides =
 
 -- percentage and presets; M of the vertical is 10,000
 abbrev most24 : ℕ → ℕ → ℕ → ℤ → ℕ
-most24 percentage least most price = number (settingsOf (changed 14 percentage (changed 15 least (changed 16 most exampleNumbers)))) exampleMarket (limit price) vertical
+most24 percentage least most price = number (settingsOf (changed 14 percentage (changed 15 least (changed 16 most exampleSlice)))) exampleMarket (limit price) vertical
 
 abbrev maxima : List (ℕ × ℕ)
 maxima =
     -- the percentage, rounded down
     (most24 300 0 600 (pos 10300), 0)
     ∷ (most24 300 0 600 (pos 10301), 24)
-    ∷ (number (settingsOf (changed 14 9 exampleNumbers)) exampleMarket (limit (pos 1000)) (puts (minus 1) 20 ∷ puts (pos 1) 21 ∷ []), 0)
-    ∷ (number (settingsOf (changed 14 9 exampleNumbers)) exampleMarket (limit (pos 1001)) (puts (minus 1) 20 ∷ puts (pos 1) 21 ∷ []), 24)
+    ∷ (number (settingsOf (changed 14 9 exampleSlice)) exampleMarket (limit (pos 1000)) (puts (minus 1) 20 ∷ puts (pos 1) 21 ∷ []), 0)
+    ∷ (number (settingsOf (changed 14 9 exampleSlice)) exampleMarket (limit (pos 1001)) (puts (minus 1) 20 ∷ puts (pos 1) 21 ∷ []), 24)
     -- raised to the minimum, lowered to the maximum
     ∷ (most24 0 50 600 (pos 10050), 0)
     ∷ (most24 0 50 600 (pos 10051), 24)
@@ -225,7 +229,7 @@ maxima =
 
 -- ticks of 5 and 10, distances of 2, 3, 4 and 5 ticks; a buy against an NBO
 abbrev far : ℕ → ℕ → ℕ
-far nbo price = number (settingsOf (changed 7 5 (changed 10 2 (changed 11 3 (changed 12 4 exampleNumbers))))) (market 1 0 0 0 0 nbo 0 0 0) (limit (pos price)) (calls (pos 1) 20 ∷ [])
+far nbo price = number (settingsOf (changed 7 5 (changed 10 2 (changed 11 3 (changed 12 4 exampleSlice))))) (market 1 0 0 0 0 nbo 0 0 0) (limit (pos price)) (calls (pos 1) 20 ∷ [])
 
 abbrev bands : List (ℕ × ℕ)
 bands =
@@ -297,7 +301,7 @@ flags =
 
 -- the settings of the examples with other switches
 abbrev switched : ℕ → ℕ → ℕ → ℕ → ℕ → ℕ → ℕ → Settings
-switched c20 c21 c22 c23 c24 c25 c26 = settingsOf (c20 ∷ c21 ∷ c22 ∷ c23 ∷ c24 ∷ c25 ∷ c26 ∷ drop 7 exampleNumbers)
+switched c20 c21 c22 c23 c24 c25 c26 = settingsOf (c20 ∷ c21 ∷ c22 ∷ c23 ∷ c24 ∷ c25 ∷ c26 ∷ drop 7 exampleSlice)
 
 -- an order for each check, with its switch alone on, and alone off; last a put that both 20 and 25 reject
 abbrev switches : List (ℕ × ℕ)
@@ -319,7 +323,7 @@ switches =
 
 -- what each number of a refusal needs
 abbrev badSettings : Settings
-badSettings = settingsOf (changed 7 0 exampleNumbers)
+badSettings = settingsOf (changed 7 0 exampleSlice)
 
 abbrev badMarket : Market
 badMarket = market 3 0 0 0 0 0 0 0 0
@@ -365,11 +369,11 @@ limits =
     ∷ []
 
 -- every setting at its least, and at its most; switches and flags have no limits
-abbrev leastNumbers : List ℕ
-leastNumbers = 0 ∷ 0 ∷ 0 ∷ 0 ∷ 0 ∷ 0 ∷ 0 ∷ 1 ∷ 1 ∷ 1 ∷ 2 ∷ 2 ∷ 2 ∷ 2 ∷ 0 ∷ 0 ∷ 0 ∷ 0 ∷ 0 ∷ 0 ∷ []
+abbrev leastSlice : List ℕ
+leastSlice = 0 ∷ 0 ∷ 0 ∷ 0 ∷ 0 ∷ 0 ∷ 0 ∷ 1 ∷ 1 ∷ 1 ∷ 2 ∷ 2 ∷ 2 ∷ 2 ∷ 0 ∷ 0 ∷ 0 ∷ 0 ∷ 0 ∷ 0 ∷ []
 
-abbrev mostNumbers : List ℕ
-mostNumbers = 0 ∷ 0 ∷ 0 ∷ 0 ∷ 0 ∷ 0 ∷ 0 ∷ 1000 ∷ 1000 ∷ 1000 ∷ 1000 ∷ 1000 ∷ 1000 ∷ 1000 ∷ 10000 ∷ 1000000 ∷ 1000000 ∷ 1000 ∷ 9 ∷ 9 ∷ []
+abbrev mostSlice : List ℕ
+mostSlice = 0 ∷ 0 ∷ 0 ∷ 0 ∷ 0 ∷ 0 ∷ 0 ∷ 1000 ∷ 1000 ∷ 1000 ∷ 1000 ∷ 1000 ∷ 1000 ∷ 1000 ∷ 10000 ∷ 1000000 ∷ 1000000 ∷ 1000 ∷ 9 ∷ 9 ∷ []
 
 abbrev call : List ℕ
 call = calls (pos 1) 20 .symbol
@@ -391,28 +395,28 @@ zeros =
 -- each setting at its least, below it, at its most and above it; the minimum above the maximum; one setting too few, one too many
 abbrev settings : List (Bool × Bool)
 settings =
-    (settingsHold (settingsOf leastNumbers), true)
-    ∷ (settingsHold (settingsOf mostNumbers), true)
-    ∷ (settingsHold (settingsOf (changed 7 0 leastNumbers)), false)
-    ∷ (settingsHold (settingsOf (changed 8 0 leastNumbers)), false)
-    ∷ (settingsHold (settingsOf (changed 9 0 leastNumbers)), false)
-    ∷ (settingsHold (settingsOf (changed 10 1 leastNumbers)), false)
-    ∷ (settingsHold (settingsOf (changed 11 1 leastNumbers)), false)
-    ∷ (settingsHold (settingsOf (changed 12 1 leastNumbers)), false)
-    ∷ (settingsHold (settingsOf (changed 13 1 leastNumbers)), false)
-    ∷ (settingsHold (settingsOf (changed 7 1001 leastNumbers)), false)
-    ∷ (settingsHold (settingsOf (changed 8 1001 leastNumbers)), false)
-    ∷ (settingsHold (settingsOf (changed 9 1001 leastNumbers)), false)
-    ∷ (settingsHold (settingsOf (changed 10 1001 leastNumbers)), false)
-    ∷ (settingsHold (settingsOf (changed 11 1001 leastNumbers)), false)
-    ∷ (settingsHold (settingsOf (changed 12 1001 leastNumbers)), false)
-    ∷ (settingsHold (settingsOf (changed 13 1001 leastNumbers)), false)
-    ∷ (settingsHold (settingsOf (changed 14 10001 leastNumbers)), false)
-    ∷ (settingsHold (settingsOf (changed 16 1000001 leastNumbers)), false)
-    ∷ (settingsHold (settingsOf (changed 15 1 leastNumbers)), false)
-    ∷ (settingsHold (settingsOf (changed 17 1001 leastNumbers)), false)
-    ∷ (settingsHold (settingsOf (take 19 leastNumbers)), false)
-    ∷ (settingsHold (settingsOf (leastNumbers ++ (0 ∷ []))), false)
+    (settingsHold (settingsOf leastSlice), true)
+    ∷ (settingsHold (settingsOf mostSlice), true)
+    ∷ (settingsHold (settingsOf (changed 7 0 leastSlice)), false)
+    ∷ (settingsHold (settingsOf (changed 8 0 leastSlice)), false)
+    ∷ (settingsHold (settingsOf (changed 9 0 leastSlice)), false)
+    ∷ (settingsHold (settingsOf (changed 10 1 leastSlice)), false)
+    ∷ (settingsHold (settingsOf (changed 11 1 leastSlice)), false)
+    ∷ (settingsHold (settingsOf (changed 12 1 leastSlice)), false)
+    ∷ (settingsHold (settingsOf (changed 13 1 leastSlice)), false)
+    ∷ (settingsHold (settingsOf (changed 7 1001 leastSlice)), false)
+    ∷ (settingsHold (settingsOf (changed 8 1001 leastSlice)), false)
+    ∷ (settingsHold (settingsOf (changed 9 1001 leastSlice)), false)
+    ∷ (settingsHold (settingsOf (changed 10 1001 leastSlice)), false)
+    ∷ (settingsHold (settingsOf (changed 11 1001 leastSlice)), false)
+    ∷ (settingsHold (settingsOf (changed 12 1001 leastSlice)), false)
+    ∷ (settingsHold (settingsOf (changed 13 1001 leastSlice)), false)
+    ∷ (settingsHold (settingsOf (changed 14 10001 leastSlice)), false)
+    ∷ (settingsHold (settingsOf (changed 16 1000001 leastSlice)), false)
+    ∷ (settingsHold (settingsOf (changed 15 1 leastSlice)), false)
+    ∷ (settingsHold (settingsOf (changed 17 1001 leastSlice)), false)
+    ∷ (settingsHold (settingsOf (take 19 leastSlice)), false)
+    ∷ (settingsHold (settingsOf (leastSlice ++ (0 ∷ []))), false)
     ∷ []
 
 -- each market value at its most, and above it; one value too few, one too many
@@ -453,6 +457,14 @@ quoteAnswers =
     ∷ (quote usual (underlyingOf 10000) call 9999 10000 2, record { number = 0; cancel = 0 })
     ∷ (quote usual (underlyingOf 10000) call 10000 10001 2, record { number = 21; cancel = 1 })
     ∷ (quote usual (underlyingOf 10000) call 10000 10001 0, record { number = 21; cancel = 0 })
+    -- an adjusted class leaves 21 out, European index style does not
+    ∷ (quote (settingsOf (changed 18 2 exampleSlice)) (underlyingOf 10000) call 10000 10001 0, record { number = 0; cancel = 0 })
+    ∷ (quote (exampleSettings 2) (underlyingOf 10000) call 10000 10001 0, record { number = 21; cancel = 0 })
+    -- their switches, each alone on, alone off
+    ∷ (quote (switched 2 0 0 0 0 0 0) exampleMarket put 20000 20001 2, record { number = 20; cancel = 1 })
+    ∷ (quote (switched 0 1 1 1 1 1 1) exampleMarket put 20000 20001 2, record { number = 0; cancel = 0 })
+    ∷ (quote (switched 0 2 0 0 0 0 0) (underlyingOf 10000) call 10000 10001 2, record { number = 21; cancel = 1 })
+    ∷ (quote (switched 1 0 1 1 1 1 1) (underlyingOf 10000) call 10000 10001 2, record { number = 0; cancel = 0 })
     ∷ []
 
 -- 26: what the quotes of Examples leave open
@@ -474,10 +486,10 @@ inversions =
     ∷ (quoted (market 1 0 0 0 1100 0 1000 1300 0) 5000 6000, 0)
     ∷ (quoted (market 1 0 0 0 0 1200 1000 1300 0) 1 2, 0)
     -- the tick at the comparison price: 40 mills from 4 ticks of 10 below 3,000, 80 from 4 of 20 from there
-    ∷ (quote (settingsOf (changed 8 20 exampleNumbers)) (market 1 0 0 0 2000 2999 1000 2999 0) call 3039 4000 0 .number, 0)
-    ∷ (quote (settingsOf (changed 8 20 exampleNumbers)) (market 1 0 0 0 2000 2999 1000 2999 0) call 3040 4000 0 .number, 26)
-    ∷ (quote (settingsOf (changed 8 20 exampleNumbers)) (market 1 0 0 0 2000 3000 1000 3000 0) call 3080 4000 0 .number, 0)
-    ∷ (quote (settingsOf (changed 8 20 exampleNumbers)) (market 1 0 0 0 2000 3000 1000 3000 0) call 3081 4000 0 .number, 26)
+    ∷ (quote (settingsOf (changed 8 20 exampleSlice)) (market 1 0 0 0 2000 2999 1000 2999 0) call 3039 4000 0 .number, 0)
+    ∷ (quote (settingsOf (changed 8 20 exampleSlice)) (market 1 0 0 0 2000 2999 1000 2999 0) call 3040 4000 0 .number, 26)
+    ∷ (quote (settingsOf (changed 8 20 exampleSlice)) (market 1 0 0 0 2000 3000 1000 3000 0) call 3080 4000 0 .number, 0)
+    ∷ (quote (settingsOf (changed 8 20 exampleSlice)) (market 1 0 0 0 2000 3000 1000 3000 0) call 3081 4000 0 .number, 26)
     -- its switch alone off, alone on
     ∷ (quote (switched 1 1 1 1 1 1 0) (market 1 0 0 0 1100 1200 1000 1300 0) call 1200 1300 0 .number, 0)
     ∷ (quote (switched 0 0 0 0 0 0 2) (market 1 0 0 0 1100 1200 1000 1300 0) call 1200 1300 0 .number, 26)
@@ -573,6 +585,10 @@ tallies =
     ∷ (counted fresh 20, tally 1 0 0 1)
     ∷ (counted fresh 25, tally 1 0 0 1)
     ∷ (counted fresh 26, tally 1 0 0 1)
+    -- beside the checks' numbers
+    ∷ (counted fresh 12, tally 1 1 0 0)
+    ∷ (counted fresh 19, tally 1 1 0 0)
+    ∷ (counted fresh 27, tally 1 1 0 0)
     ∷ []
 
 abbrev badTallies : List (Bool × Bool)
@@ -585,7 +601,7 @@ badTallies =
 
 -- the host's sequence of settings and of market values
 abbrev handed : List (Settings × Settings)
-handed = (settingsOf exampleNumbers, exampleSettings 0) ∷ (settingsOf (changed 19 7 exampleNumbers), exampleSettings 7) ∷ []
+handed = (settingsOf exampleSlice, exampleSettings 0) ∷ (settingsOf (changed 19 7 exampleSlice), exampleSettings 7) ∷ []
 
 abbrev values : List (Market × Market)
 values =
@@ -620,8 +636,9 @@ pub record Edges : Type 0 where
   pub tallied : Hold tallies
   pub broken : Hold badTallies
 
--- what the words of demand 3 reach: any other sequence, every order that is not refused, each of the five checks
+-- what the words of demand 3 reach: any other sequence, every order that is not refused ("1 to 12"), each of the five checks
 pub record Reach : Type 0 where
   pub turned : Perm {A = ℕ} (1 ∷ 2 ∷ 3 ∷ []) (3 ∷ 2 ∷ 1 ∷ [])
   pub valid : All (λ n. IsValid (answers n 0 0 0)) (0 ∷ 20 ∷ 21 ∷ 22 ∷ 23 ∷ 24 ∷ 25 ∷ [])
+  pub refused : all isRefused (1 ∷ 2 ∷ 3 ∷ 4 ∷ 5 ∷ 6 ∷ 7 ∷ 8 ∷ 9 ∷ 10 ∷ 11 ∷ 12 ∷ []) ≡ true
   pub rejected : All (λ n. NotRejected (answers n 0 0 0) → ⊥) (20 ∷ 21 ∷ 22 ∷ 23 ∷ 24 ∷ [])

@@ -109,7 +109,7 @@ divided g l = record { root = l .root; series = l .series; bought = l .bought; s
 unfoldable pub units : List Leg → List Leg
 units ls = map (divided (commonDivisor ls)) ls
 
--- "One leg is a simple order, two or more a complex order."; an order of no leg is refused
+-- "One leg is a simple order, two or more a complex order.", whatever the terms say. An order of no leg, which is refused, counts as complex.
 unfoldable pub isSimple : Terms → List Leg → Bool
 isSimple t ls = eqb (length ls) 1
 

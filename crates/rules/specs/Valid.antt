@@ -30,7 +30,8 @@ pub record AreValid (ls : List Leg) : Type 0 where
   pub apart : somePair isSameSeries ls ≡ false
   pub roots : somePair isOtherRoot ls ≡ false
 
-pub record Valid (l : Legs) : Type 0 where
+-- the same of a record of legs
+pub record ValidLegs (l : Legs) : Type 0 where
   pub few : l .len ≤ 16
   pub legs : AreValid (legsIn l)
 

@@ -22,7 +22,7 @@ pub fn is_negative(p: Price) -> bool
     both(p.received, 0 < p.size.0)
 }
 
-// Whether an order of so many legs is simple. It is complex otherwise.
+// Whether an order of so many legs is simple, whatever its terms say. It is complex otherwise.
 pub fn is_simple(t: Terms, legs: usize) -> bool
     ensures { λ r. ⌜ ((ls : List Leg) → length ls ≡ legs → r ≡ isSimple t ls) ⌝ }
 {

@@ -14,14 +14,14 @@ use Rattle.rules.specs.declared.Settings.{Settings}
 use Rattle.rules.specs.declared.Market.{Market}
 use Rattle.rules.specs.Limits.{within}
 use Rattle.rules.specs.Numerals.{areDigits}
-use Rattle.rules.specs.Lists.{All, any}
+use Rattle.rules.specs.Lists.{All, all, any}
 use Rattle.rules.specs.Symbol.{isRoot, inLimits, partsOf, isSymbol}
 use Rattle.rules.specs.Order.{recordLegs, legOf, legsOf, legsIn}
 use Rattle.rules.specs.Market.{settingsHold, marketHolds}
 use Rattle.rules.specs.Numbers.{firstOf, isBadCount, refusals, refusal}
 use Rattle.rules.proofs.Tests.{and-both, and-no, or-neither, within-both}
 use Rattle.rules.proofs.Symbols.{limits}
-use Rattle.chain.proofs.Laws.{none-apply}
+use Rattle.rules.proofs.Numbering.{none-apply}
 use Rattle.rules.specs.Valid.{InRange, IsValidLeg, AreValid}
 use Rattle.validity.specs.declared.Validated.{Validated}
 use Rattle.validity.specs.Orders.{IsValidated}
@@ -70,8 +70,8 @@ module _ (st : Settings) (m : Market) (t : Terms) (n : ℕ) (rs : List RawLeg) w
 
   -- no test of an order that is not refused applies
   not-refused : refusal st m t n rs ≡ 0 → AreValid (legsOf rs) × (settingsHold st ≡ true) × (marketHolds m ≡ true)
-  unfolding refusal
-  not-refused h = go (none-apply (refusals st m t n rs) _ h)
+  unfolding refusal all
+  not-refused h = go (none-apply (refusals st m t n rs) refl h)
     where
       go : All (λ e. e .0 ≡ false) (refusals st m t n rs) → AreValid (legsOf rs) × (settingsHold st ≡ true) × (marketHolds m ≡ true)
       go (length, (symbols, (counts, (twice, (roots, (price, (settings, (market, _)))))))) =

@@ -8,7 +8,7 @@ use Rattle.rules.specs.declared.Market.{Market}
 use Rattle.rules.specs.Order.{recordLegs, legsOf, legsIn}
 use Rattle.rules.specs.Market.{settingsHold, marketHolds}
 use Rattle.rules.specs.Numbers.{refusal}
-use Rattle.rules.specs.Valid.{Valid}
+use Rattle.rules.specs.Valid.{ValidLegs}
 use Rattle.validity.specs.declared.Validated.{Validated}
 
 -- what a valid order has: the legs as read, and settings and market in their limits
@@ -16,7 +16,7 @@ pub record IsValidOrder (st : Settings) (m : Market) (o : Order) (r : Validated)
   pub legs : legsIn (r .legs) ≡ legsOf (recordLegs o)
   pub len : r .legs .len ≡ o .len
   pub some : 1 ≤ o .len
-  pub valid : Valid (r .legs)
+  pub valid : ValidLegs (r .legs)
   pub settings : settingsHold st ≡ true
   pub market : marketHolds m ≡ true
 

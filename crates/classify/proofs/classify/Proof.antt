@@ -4,12 +4,12 @@ use lib.ListN.{length}
 use Rattle.rules.specs.Order.{legsIn, units}
 use Rattle.rules.specs.Pairing.{Walked, bothWalks}
 use Rattle.rules.specs.Class.{shapeOf, pairClass, classWith}
-use Rattle.rules.specs.Valid.{Valid}
+use Rattle.rules.specs.Valid.{ValidLegs}
 use Rattle.classify.proofs.Valid.{sortable, walkable, all-positive, sorted-valid}
 use Rattle.classify.proofs.classify.Statement.{statement}
 use Rattle.classify.proofs.classify.Tie as tie
 
-valid-after : (c : tie.After-by-strike) → Valid (c .by-strike .result)
+valid-after : (c : tie.After-by-strike) → ValidLegs (c .by-strike .result)
 valid-after c = sorted-valid _ _ (c .before .pre) (c .by-strike .ensures .0) (c .by-strike .ensures .1)
 
 by-strike-requires : tie.Need-by-strike-requires
