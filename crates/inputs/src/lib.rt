@@ -1,48 +1,11 @@
-// What the host hands in beside the legs, as records: an order's terms, the settings and the market.
+// Settings and market as the host hands them in.
 use rules::Market;
 use rules::Mills;
-use rules::Price;
 use rules::Settings;
-use rules::Terms;
 use rules::Ticks;
 ghost use mathlib.Core.Path.{_≡_};
 ghost use lib.ListN.{length};
-ghost use Rattle.rules.specs.Order.{priceOf, termsOf};
 ghost use Rattle.rules.specs.Market.{settingsFrom, settingsOf, marketFrom, marketOf};
-
-// The price's sign and size.
-pub fn price_of(price: i64) -> Price
-    ensures { λ r. ⌜ r ≡ priceOf price ⌝ }
-{
-    if price < 0 {
-        // The least integer has no opposite: one is added before the sign turns, and again after.
-        let less = -(price + 1);
-        let size = (less as u64) + 1;
-        return Price {
-            received: true,
-            size: Mills(size),
-        };
-    }
-    let size = price as u64;
-    Price {
-        received: false,
-        size: Mills(size),
-    }
-}
-
-// What an order says beside its legs, as the host hands it in.
-pub fn terms_of(price: i64, kind: u64, stop: u64, manual: u64, opening: u64) -> Terms
-    ensures { λ r. ⌜ r ≡ termsOf price kind stop manual opening ⌝ }
-{
-    let signed = price_of(price);
-    Terms {
-        price: signed,
-        kind: kind,
-        stop: stop,
-        manual: manual,
-        opening: opening,
-    }
-}
 
 fn settings_from(n: &[u64]) -> Settings
     requires { ⌜ length (now n) ≡ 20 ⌝ }

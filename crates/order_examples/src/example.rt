@@ -1,13 +1,13 @@
 // The order of an example as a host lends it, and the order check's answer to it.
 use inputs::market_of;
 use inputs::settings_of;
-use inputs::terms_of;
 use order_check::check_slices;
 use rules::Market;
 use rules::Mills;
 use rules::OrderAnswer;
 use rules::Settings;
 use rules::SymbolParts;
+use terms::terms_of;
 ghost use mathlib.Core.Path.{_≡_};
 ghost use mathlib.Core.Bool.{true, false};
 ghost use Prim.Native.Nat.{_+_, _%_, _^_, _≤_};

@@ -134,7 +134,7 @@ fn thousandths(n: u64) {
 
 // Dollars, flush right.
 fn write_price(mills: i64) {
-    let p = inputs::price_of(mills);
+    let p = terms::price_of(mills);
     let dollars = p.size.0 / 1000;
     let width = less(5, digits(dollars));
     if p.received {

@@ -1,8 +1,8 @@
 // The entry for orders.
 use inputs::market_of;
 use inputs::settings_of;
-use inputs::terms_of;
 use order_check::check_slices;
+use terms::terms_of;
 ghost use mathlib.Core.Path.{_≡_};
 ghost use Rattle.rules.specs.Market.{settingsOf, marketOf};
 ghost use Rattle.rules.specs.Numbers.{answerTo};

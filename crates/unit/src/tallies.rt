@@ -1,10 +1,10 @@
 // The entry for orders that are tallied.
 use inputs::market_of;
 use inputs::settings_of;
-use inputs::terms_of;
 use order_check::check_slices;
 use rules::Tally;
 use tally::tallied;
+use terms::terms_of;
 ghost use mathlib.Core.Path.{_≡_};
 ghost use Rattle.rules.specs.Market.{settingsOf, marketOf};
 ghost use Rattle.rules.specs.Tally.{checkTallied};

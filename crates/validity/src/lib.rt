@@ -6,8 +6,6 @@ use limits::settings_hold;
 use reading::legs_of;
 use refusals::is_bad_price;
 use refusals::some_bad_count;
-use refusals::some_other_root;
-use refusals::some_series_twice;
 use rules::Leg;
 use rules::Legs;
 use rules::Market;
@@ -15,6 +13,8 @@ use rules::Mills;
 use rules::Order;
 use rules::Series;
 use rules::Settings;
+use series_refusals::some_other_root;
+use series_refusals::some_series_twice;
 ghost use mathlib.Core.Path.{_≡_};
 ghost use Rattle.validity.specs.Orders.{IsValidated};
 

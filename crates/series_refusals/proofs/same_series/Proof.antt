@@ -3,8 +3,8 @@ use mathlib.Core.Path.{ap, _∙_}
 use mathlib.Core.Bool.{Bool, _&&_}
 use lib.Dec.{eqb}
 use Rattle.rules.proofs.Tests.{beq-same}
-use Rattle.refusals.proofs.same_series.Statement.{statement}
-use Rattle.refusals.proofs.same_series.Tie as tie
+use Rattle.series_refusals.proofs.same_series.Statement.{statement}
+use Rattle.series_refusals.proofs.same_series.Tie as tie
 
 returns : tie.Need-returns
 returns c =

@@ -9,9 +9,9 @@ use Rattle.rules.specs.Lists.{any}
 use Rattle.rules.specs.Numbers.{isOtherRoot}
 use Rattle.rules.specs.Order.{noLeg}
 use Rattle.loops.proofs.Finding.{any-turn, any-end}
-use Rattle.refusals.proofs.Laws.{roots-from-first}
-use Rattle.refusals.proofs.some_other_root.Statement.{statement}
-use Rattle.refusals.proofs.some_other_root.Tie as tie
+use Rattle.series_refusals.proofs.Laws.{roots-from-first}
+use Rattle.series_refusals.proofs.some_other_root.Statement.{statement}
+use Rattle.series_refusals.proofs.some_other_root.Tie as tie
 
 abbrev Inv-loop : tie.InvT-loop
 Inv-loop l n r₀ i₀ r i =

@@ -1,7 +1,7 @@
 use native.Mathlib.Omega.{arith}
-use Rattle.inputs.proofs.Signs.{Negative, NotNegative, negative, not-negative, price-received, price-paid}
-use Rattle.inputs.proofs.price_of.Statement.{statement}
-use Rattle.inputs.proofs.price_of.Tie as tie
+use Rattle.terms.proofs.Signs.{Negative, NotNegative, negative, not-negative, price-received, price-paid}
+use Rattle.terms.proofs.price_of.Statement.{statement}
+use Rattle.terms.proofs.price_of.Tie as tie
 
 below : (c : tie.Then1) → Negative (c .before .args .price)
 below c = negative (c .before .args .price) (c .before .fits .price) (c .if1 .taken)

@@ -9,8 +9,8 @@ use Rattle.rules.specs.Lists.{somePair}
 use Rattle.rules.specs.Numbers.{isSameSeries}
 use Rattle.rules.specs.Order.{noLeg}
 use Rattle.loops.proofs.Finding.{from, pair-enter, pair-turn, pair-leave, pair-end}
-use Rattle.refusals.proofs.some_series_twice.Statement.{statement}
-use Rattle.refusals.proofs.some_series_twice.Tie as tie
+use Rattle.series_refusals.proofs.some_series_twice.Statement.{statement}
+use Rattle.series_refusals.proofs.some_series_twice.Tie as tie
 
 abbrev Inv-loop2 : tie.InvT-loop2
 Inv-loop2 l n r₀ i j₀ r j = from noLeg (l .legs) n isSameSeries r i j ≡ somePair isSameSeries (take n (l .legs))

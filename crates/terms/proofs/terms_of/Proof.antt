@@ -1,7 +1,7 @@
 use mir.Syntax.{w64}
 use mir.ValLaws.{toZ-ofZ}
-use Rattle.inputs.proofs.terms_of.Statement.{statement}
-use Rattle.inputs.proofs.terms_of.Tie as tie
+use Rattle.terms.proofs.terms_of.Statement.{statement}
+use Rattle.terms.proofs.terms_of.Tie as tie
 
 returns : tie.Need-returns
 returns c = rw (c .price-of .ensures, toZ-ofZ w64 (c .before .args .price) (c .before .fits .price))
