@@ -1,8 +1,6 @@
 -- Each rule on both sides of its limits, by computing the definitions.
 use mathlib.Core.Path.{refl}
-use mathlib.Core.List.{[], _∷_}
-use native.Mathlib.Omega.{arith}
-use Rattle.rules.specs.Lists.{swap, keep, then, all, any, somePair, every, lex, insert, sort}
+use Rattle.rules.specs.Lists.{all, any, somePair, every, lex, insert, sort}
 use Rattle.rules.specs.Numerals.{value, numeral, areDigits}
 use Rattle.rules.specs.Quantities.{distance}
 use Rattle.rules.specs.Symbol.{areSpaces, isRootTail, isRoot, leapDay, daysIn, dayExists, inLimits, symbolOf, partsOf, isSymbol, inLayout, readSymbol, writeSymbol}
@@ -14,18 +12,8 @@ use Rattle.rules.specs.Market.{isUnusable, elsewhereReference, reference
 use Rattle.rules.specs.Numbers.{firstOf, isBadPrice, refusal, rejection, judged, outcome, checkLegs, checkOrder, checkSlices}
 use Rattle.rules.specs.Quote.{comparison, setDistance, isInverted, quoteInversion, isBadQuote, quoteRefusal, quoteRejection, quoteOutcome, checkQuote}
 use Rattle.rules.specs.Tally.{isBadTally, counted}
-use Rattle.rules.specs.Edges.{Edges, Reach}
+use Rattle.rules.specs.Edges.{Edges}
 
 pub edges : Edges
 unfolding all any somePair every lex insert sort value numeral areDigits distance areSpaces isRootTail isRoot leapDay daysIn dayExists inLimits symbolOf partsOf isSymbol word rawLeg rawLegs priceOf legOf legsOf gcdWithin gcd commonDivisor units isSimple pairOf matched reach walk byStrike byExpiry bothWalks isDebit isVertical isButterfly isBox shapeOf hasOwnClass allOf pairClass classWith putTest callTest simpleBuy sizes isBelow sameSideBelow buyBuy debitCredit maximumOf allowance maximumValue isUnusable elsewhereReference reference acceptableTicks tickAt limitDistance isTooFar tickDistance settingsOf marketOf settingsHold marketHolds firstOf isBadPrice refusal rejection judged outcome checkLegs checkOrder checkSlices comparison setDistance isInverted quoteInversion isBadQuote quoteRefusal quoteRejection quoteOutcome checkQuote isBadTally counted inLayout readSymbol writeSymbol
 edges = record { shape = refl; expiry = refl; style = refl; simple = refl; complex = refl; maximum = refl; band = refl; reference = refl; unreferenced = refl; flag = refl; switch = refl; refusal = refl; limited = refl; unsigned = refl; settingsRecord = refl; marketRecord = refl; settingsLimits = refl; marketLimits = refl; quotes = refl; inverted = refl; symbols = refl; date = refl; root = refl; written = refl; tallied = refl; broken = refl }
-
-pub reach-is : Reach
-unfolding all
-reach-is =
-    record {
-      turned = then (swap 1 2 (3 ∷ [])) (then (keep 2 (swap 1 3 [])) (swap 2 3 (1 ∷ [])));
-      valid = (refl, (refl, (refl, (refl, (refl, (refl, (refl, tt)))))));
-      refused = refl;
-      rejected = ((λ f. f (omega arith) (omega arith)), ((λ f. f (omega arith) (omega arith)), ((λ f. f (omega arith) (omega arith)), ((λ f. f (omega arith) (omega arith)), ((λ f. f (omega arith) (omega arith)), tt)))));
-    }

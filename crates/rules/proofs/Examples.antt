@@ -15,15 +15,6 @@ use Rattle.rules.specs.Tally.{isBadTally}
 use Rattle.rules.specs.Examples.{Examples, Directions, Further}
 
 -- a definition that the examples reach and that is not named here keeps them from being computed, and the message does not name it
-computed : Examples × Directions × Further
+pub examples : Examples × Directions × Further
 unfolding all any somePair every lex insert sort value numeral areDigits distance areSpaces isRootTail isRoot leapDay daysIn dayExists inLimits symbolOf partsOf isSymbol word rawLeg rawLegs priceOf legOf legsOf gcdWithin gcd commonDivisor units isSimple pairOf matched reach walk byStrike byExpiry bothWalks isDebit isVertical isButterfly isBox shapeOf hasOwnClass allOf pairClass classWith putTest callTest simpleBuy sizes isBelow sameSideBelow buyBuy debitCredit maximumOf allowance maximumValue isUnusable elsewhereReference reference acceptableTicks tickAt limitDistance isTooFar tickDistance settingsOf marketOf settingsHold marketHolds firstOf isBadPrice refusal rejection judged outcome checkLegs checkSlices comparison setDistance isInverted quoteInversion isBadQuote quoteRefusal quoteRejection quoteOutcome checkQuote isBadTally
-computed = (refl, refl, record { orders = refl; simple = refl; inverted = refl; last = refl; full = refl })
-
-pub examples : Examples
-examples = computed .0
-
-pub directions : Directions
-directions = computed .1
-
-pub further : Further
-further = computed .2
+examples = (refl, refl, record { orders = refl; simple = refl; inverted = refl; last = refl; full = refl })

@@ -8,7 +8,6 @@ pub mod Order
 pub mod Pairing
 pub mod Class
 pub mod Checks
-pub mod Fair
 pub mod Market
 pub mod Kinds
 pub mod Numbers
@@ -19,4 +18,3 @@ pub mod Examples
 pub mod Edges
 pub mod Demand1
 pub mod Demand2
-pub mod Demand3

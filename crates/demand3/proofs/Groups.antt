@@ -3,11 +3,11 @@ use mathlib.Core.Path.{_≡_}
 use mathlib.Core.Bool.{true}
 use lib.Dec.{eqb}
 use borrow.Author.Tests.{eqb-true}
 use Rattle.rules.specs.declared.Series.{Series}
 use Rattle.rules.specs.Lists.{sameBool}
 use Rattle.rules.specs.Pairing.{oneExpiry, oneStrike}
-use Rattle.rules.specs.Fair.{ShareExpiry, ShareStrike}
+use Rattle.demand3.specs.Fair.{ShareExpiry, ShareStrike}
 use Rattle.rules.proofs.Tests.{and-both, same-eq}
 
 pub one-expiry : (s t : Series) → oneExpiry s t ≡ true → ShareExpiry s t
 one-expiry s t e =

@@ -5,13 +5,13 @@ use mathlib.Core.Bool.{Bool, true, false, cond}
 use Prim.Native.Nat.{ℕ, _*_, _/_, _≤_, _<_, _∣_}
 use native.Mathlib.Nat.{dvd-refl, dvd-zero, dvd-trans, dvd-antisymm, div-mul-cancel, pos-of-dvd-of-pos, le-of-mul-le-mul-right}
 use native.Mathlib.Omega.{arith}
 use Rattle.rules.specs.declared.Series.{Series}
 use Rattle.rules.specs.declared.Leg.{Leg}
 use Rattle.rules.specs.Lists.{All, Perm, sameBool}
 use Rattle.rules.specs.Order.{commonDivisor, divided, units}
 use Rattle.rules.proofs.Divisor.{gcd-divides, gcd-greatest}
 use Rattle.rules.proofs.Sorting.{all-perm, perm-sym, map-perm}
-use Rattle.rules.proofs.Worth.{worth}
+use Rattle.demand3.proofs.Worth.{worth}
 
 divides-all : (g : ℕ) (ls : List Leg) → g ∣ commonDivisor ls → All (λ l. g ∣ l .size) ls
 unfolding commonDivisor

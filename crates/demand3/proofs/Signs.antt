@@ -9,11 +9,11 @@ use lib.Dec.{leb, le→leb}
 use lib.IntN.{ℤ, pos, negℤ, _+ℤ_, _-ℤ_, _*ℤ_, +ℤ-assoc, +ℤ-comm, negℤ-+ℤ, negℤ-negℤ}
 use lib.Signed.{_≤ℤ_, leZ-yes}
 use borrow.Author.Tests.{le-ltb}
 use Rattle.rules.specs.declared.Series.{Series}
 use Rattle.rules.specs.declared.Leg.{Leg}
 use Rattle.rules.specs.Lists.{sameBool}
 use Rattle.rules.specs.Order.{worthOf}
-use Rattle.rules.proofs.Worth.{worth}
+use Rattle.demand3.proofs.Worth.{worth}
 
 neg-mul : (n p : ℕ) → negℤ (pos n) *ℤ pos p ≡ negℤ (pos (n * p))
 neg-mul zero p = rw zero-mul

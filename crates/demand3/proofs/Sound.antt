@@ -9,27 +9,27 @@ use native.Mathlib.Omega.{arith}
 use lib.Dec.{ltb, leb, eqb}
 use lib.IntN.{ℤ, pos, negsuc, negℤ, _-ℤ_}
 use borrow.Author.Tests.{ltb-true, leb-true, leb-false, eqb-true}
 use Rattle.rules.specs.declared.Mills.{Mills}
 use Rattle.rules.specs.declared.Price.{Price}
 use Rattle.rules.specs.declared.Terms.{Terms}
 use Rattle.rules.specs.declared.Series.{Series}
 use Rattle.rules.specs.declared.Leg.{Leg}
 use Rattle.rules.specs.declared.Settings.{Settings}
 use Rattle.rules.specs.declared.Market.{Market}
 use Rattle.rules.specs.Lists.{All, sameBool, all, every}
 use Rattle.rules.specs.Order.{isYes, isComplex, signedPrice, gcd, gcdWithin, commonDivisor, units}
 use Rattle.rules.specs.Pairing.{Walked, bothWalks}
 use Rattle.rules.specs.Class.{isVertical, isButterfly, hasOwnClass, isBox, shapeOf, allOf, pairClass, classWith, classOf}
 use Rattle.rules.specs.Checks.{isLimit, isPositive, isNegative, putTest, callTest, simpleBuy, sizes, isBelow, sameSideBelow, buyBuy, debitCredit, maximumOf, allowance, hasMaximum, maximumValue}
-use Rattle.rules.specs.Fair.{Has, Fair}
+use Rattle.demand3.specs.Fair.{Has, Fair}
 use Rattle.rules.proofs.Simple.{simple-length}
 use Rattle.rules.proofs.Tests.{and-both, or-either, not-eq, passed}
 use Rattle.rules.proofs.Sorting.{all-map}
-use Rattle.rules.proofs.Worth.{worth}
-use Rattle.rules.proofs.Units.{Sized, units-order}
-use Rattle.rules.proofs.Signs.{minus-up, minus-down}
-use Rattle.rules.proofs.ClassWorth.{class-worth}
-use Rattle.rules.proofs.Shapes.{fly-class, vertical-max, fly-max, box-max}
+use Rattle.demand3.proofs.Worth.{worth}
+use Rattle.demand3.proofs.Units.{Sized, units-order}
+use Rattle.demand3.proofs.Signs.{minus-up, minus-down}
+use Rattle.demand3.proofs.ClassWorth.{class-worth}
+use Rattle.demand3.proofs.Shapes.{fly-class, vertical-max, fly-max, box-max}
 
 -- the price that is `B` less `S`
 pub record PriceIs (p : Price) (B S : ℕ) : Type 0 where

@@ -8,17 +8,17 @@ use native.Mathlib.Omega.{arith}
 use native.Mathlib.Nat.{add-comm}
 use lib.Dec.{ltb, leb}
 use borrow.Author.Tests.{ltb-true, ltb-false, leb-true, le-leb, eqb-true}
 use Rattle.rules.specs.declared.Series.{Series}
 use Rattle.rules.specs.declared.Leg.{Leg}
 use Rattle.rules.specs.declared.Settings.{Settings}
 use Rattle.rules.specs.declared.Market.{Market}
 use Rattle.rules.specs.Lists.{sameBool}
 use Rattle.rules.specs.Class.{strikeOf, isVertical, between, isButterfly, hasOwnClass, isBox}
-use Rattle.rules.specs.Fair.{Has, Fair, ShareExpiry}
+use Rattle.demand3.specs.Fair.{Has, Fair, ShareExpiry}
 use Rattle.rules.proofs.Tests.{and-both, or-either, not-eq, opposite-eq, passed}
-use Rattle.rules.proofs.Worth.{worth}
-use Rattle.rules.proofs.Butterfly.{fly-calls, fly-puts}
-use Rattle.rules.proofs.Groups.{one-expiry, series-eq}
+use Rattle.demand3.proofs.Worth.{worth}
+use Rattle.demand3.proofs.Butterfly.{fly-calls, fly-puts}
+use Rattle.demand3.proofs.Groups.{one-expiry, series-eq}
 
 Between : ℕ → ℕ → ℕ → Type 0
 Between a m b = ((a < m) × (m < b)) ⊎ ((b < m) × (m < a))

@@ -7,19 +7,19 @@ use native.Mathlib.Nat.{mul-le-mul-left, zero-mul}
 use native.Mathlib.Omega.{arith}
 use lib.Dec.{ltb, eqb}
 use borrow.Author.Tests.{ltb-true, ltb-false, eqb-true, eqb-false, eq-eqb}
 use Rattle.rules.specs.declared.Series.{Series}
 use Rattle.rules.specs.declared.Leg.{Leg}
 use Rattle.rules.specs.declared.Settings.{Settings}
 use Rattle.rules.specs.declared.Market.{Market}
 use Rattle.rules.specs.Lists.{All, sameBool, all}
 use Rattle.rules.specs.Order.{isYes}
 use Rattle.rules.specs.Pairing.{Pair, Walked, walk, oneExpiry, oneStrike, byExpiry, bothWalks, isDebit}
 use Rattle.rules.specs.Class.{allOf}
-use Rattle.rules.specs.Fair.{Has, Fair, ShareExpiry, ShareStrike}
+use Rattle.demand3.specs.Fair.{Has, Fair, ShareExpiry, ShareStrike}
 use Rattle.rules.proofs.Tests.{and-both}
 use Rattle.rules.proofs.Sorting.{all-perm, all-append, perm-sym, sort-is-perm}
-use Rattle.rules.proofs.Worth.{worth, pairsWorth, pairing-worth, walk-all}
-use Rattle.rules.proofs.Groups.{one-expiry, one-strike, series-eq}
+use Rattle.demand3.proofs.Worth.{worth, pairsWorth, pairing-worth, walk-all}
+use Rattle.demand3.proofs.Groups.{one-expiry, one-strike, series-eq}
 
 -- a pair that is a debit is not cheaper bought than sold, and one that is a credit not dearer
 abbrev Right : (Series → ℕ) → Series → Series → Type 0

@@ -8,14 +8,14 @@ use lib.ListN.{length, take, drop, length-append, length-take, length-drop, take
 use lib.Seq.{take-at, drop-at}
 use lib.Dec.{eqb}
 use borrow.Author.Tests.{eq-eqb, eqb-true}
 use Rattle.rules.specs.declared.Terms.{Terms}
 use Rattle.rules.specs.declared.Settings.{Settings}
 use Rattle.rules.specs.declared.Market.{Market}
 use Rattle.rules.specs.Lists.{All}
 use Rattle.rules.specs.Order.{Lent, symbolsOf, countsOf, lentLegs, rawLegs}
 use Rattle.rules.specs.Numbers.{areWhole, refused, checkLegs, checkSlices}
-use Rattle.rules.specs.Demand3.{IsWhole}
+use Rattle.demand3.specs.Demand3.{IsWhole}
 use Rattle.rules.proofs.Tests.{and-both}
 
 symbols-length : (xs : List Lent) → All IsWhole xs → length (symbolsOf xs) ≡ 21 * length xs
 symbols-length [] h = omega arith

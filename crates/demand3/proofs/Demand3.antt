@@ -9,32 +9,32 @@ use lib.ListN.{length}
 use lib.IntN.{ℤ, pos, negsuc, _-ℤ_}
 use lib.Signed.{_≤ℤ_}
 use borrow.Author.Tests.{eqb-true}
 use Rattle.rules.specs.declared.RawLeg.{RawLeg}
 use Rattle.rules.specs.declared.Terms.{Terms}
 use Rattle.rules.specs.declared.Order.{Order}
 use Rattle.rules.specs.declared.Series.{Series}
 use Rattle.rules.specs.declared.Leg.{Leg}
 use Rattle.rules.specs.declared.Settings.{Settings}
 use Rattle.rules.specs.declared.Market.{Market}
 use Rattle.rules.specs.Limits.{within}
 use Rattle.rules.specs.Lists.{All, Perm, all, any}
 use Rattle.rules.specs.Order.{isYes, Lent, lentLegs, recordLegs, priceOf, signedPrice, termsOf, legOf, legsOf, units, netWorth}
 use Rattle.rules.specs.Pairing.{byStrike, bothWalks}
 use Rattle.rules.specs.Class.{classOf}
-use Rattle.rules.specs.Fair.{Has, Fair}
+use Rattle.demand3.specs.Fair.{Has, Fair}
 use Rattle.rules.specs.Kinds.{isAccepted, isRefused}
 use Rattle.rules.specs.Numbers.{isBadCount, refusals, refusal, rejection, judged, outcome, checkLegs, checkOrder, Inputs}
-use Rattle.rules.specs.Demand3.{IsWhole, IsValid, NotRejected, arrival, orderLegs, Arrivals, Demand3}
+use Rattle.demand3.specs.Demand3.{IsWhole, IsValid, NotRejected, arrival, orderLegs, Arrivals, Demand3}
 use Rattle.rules.proofs.Tests.{and-both, or-either, or-neither, within-both}
 use Rattle.rules.proofs.Sorting.{all-perm, perm-sym, map-perm, length-perm}
 use Rattle.rules.proofs.Numbering.{first-of, first-passes, none-apply}
-use Rattle.rules.proofs.Worth.{worth, worth-perm}
-use Rattle.rules.proofs.Units.{Sized, units-perm}
-use Rattle.rules.proofs.Signs.{worth-is, up-sign, down-sign}
-use Rattle.rules.proofs.ClassWorth.{has-all}
-use Rattle.rules.proofs.Sound.{PriceIs, price-is, has-units, class-ls, sound20, sound21, sound22, sound23, sound24}
+use Rattle.demand3.proofs.Worth.{worth, worth-perm}
+use Rattle.demand3.proofs.Units.{Sized, units-perm}
+use Rattle.demand3.proofs.Signs.{worth-is, up-sign, down-sign}
+use Rattle.demand3.proofs.ClassWorth.{has-all}
+use Rattle.demand3.proofs.Sound.{PriceIs, price-is, has-units, class-ls, sound20, sound21, sound22, sound23, sound24}
 use Rattle.rules.proofs.Sequence.{by-strike-is-perm, check-perm}
-use Rattle.rules.proofs.Slicing.{slices-are, slices-broken, whole-slices}
+use Rattle.demand3.proofs.Slicing.{slices-are, slices-broken, whole-slices}
 
 -- legs whose counts are in their limits have contracts
 counted : (rs : List RawLeg) → any isBadCount rs ≡ false → Sized (legsOf rs)

@@ -6,13 +6,13 @@ use Prim.Native.Nat.{ℕ, zero, suc, _+_, _-_, _*_, _≤_, _<_}
 use native.Mathlib.Nat.{le-refl, add-mul, mul-le-mul-left, mul-le-mul-right}
 use native.Mathlib.Omega.{arith}
 use lib.IntN.{ℤ, pos, _+ℤ_, _*ℤ_}
 use Rattle.rules.specs.declared.Series.{Series}
 use Rattle.rules.specs.declared.Leg.{Leg}
 use Rattle.rules.specs.Lists.{All}
 use Rattle.rules.specs.Order.{signed, commonDivisor, divided, units, worthOf, netWorth}
-use Rattle.rules.specs.Fair.{Has, FairExists, FairMoves, FairAgree}
+use Rattle.demand3.specs.Fair.{Has, FairExists, FairMoves, FairAgree}
 use Rattle.rules.proofs.Sorting.{all-map}
-use Rattle.rules.proofs.ClassWorth.{has-all}
+use Rattle.demand3.proofs.ClassWorth.{has-all}
 
 flat : (a m b n : ℕ) → a < m → m < b → (b - a) * n ≤ (b - m) * n + (m - a) * n
 flat a m b n h k = rw (← (add-mul (b - m) (m - a) n)) (mul-le-mul-right n (omega arith))

@@ -6,17 +6,17 @@ use Prim.Native.Nat.{ℕ, _≤_}
 use lib.ListN.{length}
 use lib.IntN.{ℤ, pos}
 use lib.Signed.{_≤ℤ_}
 use Rattle.rules.specs.declared.Order.{Order}
 use Rattle.rules.specs.declared.Series.{Series}
 use Rattle.rules.specs.declared.Leg.{Leg}
 use Rattle.rules.specs.declared.Settings.{Settings}
 use Rattle.rules.specs.declared.Market.{Market}
 use Rattle.rules.specs.declared.OrderAnswer.{OrderAnswer}
 use Rattle.rules.specs.Lists.{All, Perm}
 use Rattle.rules.specs.Order.{Lent, symbolsOf, countsOf, lentLegs, recordLegs, signedPrice, legsOf, netWorth}
-use Rattle.rules.specs.Fair.{Fair}
+use Rattle.demand3.specs.Fair.{Fair}
 use Rattle.rules.specs.Kinds.{isRefused}
 use Rattle.rules.specs.Numbers.{checkOrder, areWhole, Inputs, answerTo}
 
 -- an arrival of legs; both are "alike in price, kind, flags, settings, market and all else"
 abbrev pub arrival : Inputs → List Lent → OrderAnswer
