@@ -5,7 +5,7 @@ use Prim.Native.Nat.{ℕ, _+_, _*_, _/_, _%_}
 use mathlib.Core.Bool.{false}
 use lib.ListN.{length, take}
 use Rattle.rules.specs.Pairing.{expiryKey}
-use Rattle.walk.specs.Tags.{seriesAt}
+use Rattle.tagged.specs.Tags.{seriesAt}
 
 -- the key of the second walk, of a tag of the first
 unfoldable pub keyAgain : ℕ → ℕ

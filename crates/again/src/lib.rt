@@ -4,7 +4,7 @@ ghost use mathlib.Core.List.{map};
 ghost use Prim.Native.Nat.{_*_, _+_, _/_, _%_, _≤_, _<_};
 ghost use lib.ListN.{length, take, getD};
 ghost use Rattle.sorting.specs.Keys.{sortKeys, tagged};
-ghost use Rattle.walk.specs.Tags.{Tagged};
+ghost use Rattle.tagged.specs.Tags.{Tagged};
 ghost use Rattle.again.specs.Second.{keyAgain, Moved, secondTag};
 
 // The key of the second walk, from the tag of the first.

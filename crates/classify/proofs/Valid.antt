@@ -20,7 +20,7 @@ use Rattle.rules.proofs.Sorting.{all-perm, perm-sym, somePair-perm}
 use Rattle.rules.proofs.Sequence.{by-strike-is-perm, same-series-turn, other-root-turn}
 use Rattle.sorting.specs.Keys.{EachTwo}
 use Rattle.sorting.proofs.Laws.{each-two-with, each-two-fail}
-use Rattle.walk.specs.Tags.{seriesAt}
+use Rattle.tagged.specs.Tags.{seriesAt}
 use Rattle.rules.specs.Valid.{InRange, IsValidLeg, AreValid, ValidLegs}
 use Rattle.tags.specs.Legs.{AllInRange}
 use Rattle.pairing.specs.Both.{Walkable}

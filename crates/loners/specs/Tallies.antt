@@ -6,8 +6,8 @@ use Prim.Native.Nat.{ℕ, _+_, _%_}
 use lib.ListN.{take}
 use lib.Dec.{eqb}
 use Rattle.rules.specs.declared.Leg.{Leg}
-use Rattle.walk.specs.declared.PairTally.{PairTally}
-use Rattle.walk.specs.Tags.{legsFrom}
+use Rattle.tagged.specs.declared.PairTally.{PairTally}
+use Rattle.tagged.specs.Tags.{legsFrom}
 
 abbrev pub aloneWith : PairTally → Bool → ℕ → PairTally
 aloneWith t bought left =

@@ -3,7 +3,7 @@ use choice::both;
 use choice::either;
 use choice::negated;
 use choice::pick;
-use walk::PairTally;
+use tagged::PairTally;
 ghost use mathlib.Core.Path.{_≡_};
 ghost use Prim.Native.Nat.{_≤_};
 ghost use lib.ListN.{length};

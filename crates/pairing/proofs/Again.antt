@@ -16,8 +16,8 @@ use Rattle.rules.specs.Order.{noLeg}
 use Rattle.rules.proofs.Sorting.{all-perm, perm-sym}
 use Rattle.sorting.specs.Keys.{sortKeys, tagged, EachTwo}
 use Rattle.sorting.proofs.Laws.{sort-same, by-expiry, each-two-map, tagged-says}
-use Rattle.walk.specs.Tags.{seriesAt, legAt, legsFrom}
-use Rattle.walk.proofs.Zip.{zip-length, zip-at}
+use Rattle.tagged.specs.Tags.{seriesAt, legAt, legsFrom}
+use Rattle.tagged.proofs.Zip.{zip-length, zip-at}
 use Rattle.again.specs.Second.{keyAgain, secondTag, Moved}
 use Rattle.tags.proofs.Places.{places-small, same-map}
 

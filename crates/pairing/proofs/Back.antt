@@ -10,7 +10,7 @@ use Rattle.rules.specs.declared.Series.{Series}
 use Rattle.rules.specs.declared.Leg.{Leg}
 use Rattle.rules.specs.Lists.{All}
 use Rattle.rules.specs.Pairing.{strikeKey}
-use Rattle.walk.specs.Tags.{seriesAt, legAt, legsFrom}
+use Rattle.tagged.specs.Tags.{seriesAt, legAt, legsFrom}
 use Rattle.rules.specs.Valid.{InRange}
 use Rattle.tags.specs.Legs.{tagOf}
 use Rattle.tags.proofs.Keys.{key-call, tag-side}

@@ -14,8 +14,8 @@ use Rattle.rules.specs.Pairing.{Walked, walk, oneExpiry, oneStrike, expiryKey, 
 use Rattle.rules.specs.Class.{pairClass}
 use Rattle.rules.proofs.Pairings.{pairing-fewer}
 use Rattle.sorting.specs.Keys.{sortKeys, tagged, EachTwo}
-use Rattle.walk.specs.declared.PairTally.{PairTally}
-use Rattle.walk.specs.Tags.{legAt, legsFrom, Tagged, none, noted, Walks}
+use Rattle.tagged.specs.declared.PairTally.{PairTally}
+use Rattle.tagged.specs.Tags.{legAt, legsFrom, Tagged, none, noted, Walks}
 use Rattle.rules.specs.Valid.{InRange}
 use Rattle.tags.specs.Legs.{tagOf}
 use Rattle.again.specs.Second.{keyAgain, secondTag, Moved}

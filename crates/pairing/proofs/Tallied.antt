@@ -11,9 +11,9 @@ use Rattle.rules.specs.Lists.{sameBool, all}
 use Rattle.rules.specs.Pairing.{Pair, Walked, isDebit}
 use Rattle.rules.specs.Class.{allOf, pairClass}
 use Rattle.rules.proofs.Tests.{or-false, or-assoc}
-use Rattle.walk.specs.declared.PairTally.{PairTally}
-use Rattle.walk.specs.Tags.{oneMore, none, noted}
-use Rattle.walk.proofs.Walking.{noted-append}
+use Rattle.tagged.specs.declared.PairTally.{PairTally}
+use Rattle.tagged.specs.Tags.{oneMore, none, noted}
+use Rattle.tagged.proofs.Walking.{noted-append}
 use Rattle.loners.specs.Tallies.{aloneWith, allAlone, joinedTallies, tallyClass}
 
 -- a further list of pairs is tallied by itself and joined

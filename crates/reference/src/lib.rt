@@ -1,26 +1,18 @@
-// The reference price of a single option, and the distance set for it.
+// The reference price of a single option.
 use choice::both;
 use choice::either;
 use choice::negated;
 use rules::Market;
 use rules::Mills;
-use rules::Settings;
-use rules::Ticks;
 use sides::at_or_past;
 use sides::national;
 use sides::own;
 ghost use mathlib.Core.Path.{_≡_};
 ghost use mathlib.Core.Bool.{cond, not, _&&_, _||_};
 ghost use lib.Dec.{eqb, ltb};
-ghost use Rattle.rules.specs.Market.{isMissing, isUnusable, atOrPast, reference, acceptableTicks, tickAt};
+ghost use Rattle.rules.specs.Market.{isMissing, isUnusable, atOrPast, reference};
 
 fn pick_price(c: bool, x: Mills, y: Mills) -> Mills
-    ensures { λ r. ⌜ r ≡ cond c x y ⌝ }
-{
-    if c { x } else { y }
-}
-
-fn pick_ticks(c: bool, x: Ticks, y: Ticks) -> Ticks
     ensures { λ r. ⌜ r ≡ cond c x y ⌝ }
 {
     if c { x } else { y }
@@ -82,25 +74,4 @@ pub fn reference(bought: bool, m: Market) -> Mills
         pick_price(m.elsewhere != 0, elsewhere, m.close),
         pick_price(both(m.phase == 1, unusable), own(bought, m), best),
     )
-}
-
-// The acceptable tick distance of the reference's band.
-pub fn acceptable_ticks(st: Settings, r: Mills) -> Ticks
-    ensures { λ a. ⌜ a ≡ acceptableTicks st r ⌝ }
-{
-    pick_ticks(
-        r.0 < 1000,
-        st.atd0,
-        pick_ticks(
-            r.0 < 3000,
-            st.atd1,
-            pick_ticks(r.0 < 10000, st.atd2, st.atd3),
-        ),
-    )
-}
-
-pub fn tick_at(st: Settings, r: Mills) -> Mills
-    ensures { λ t. ⌜ t ≡ tickAt st r ⌝ }
-{
-    pick_price(r.0 < 3000, st.lowtick, st.hightick)
 }

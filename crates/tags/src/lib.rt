@@ -8,7 +8,7 @@ ghost use Prim.Native.Nat.{_≤_, _<_};
 ghost use lib.ListN.{length, take};
 ghost use Rattle.rules.specs.Order.{legsIn};
 ghost use Rattle.rules.specs.Pairing.{strikeKey};
-ghost use Rattle.walk.specs.Tags.{Tagged};
+ghost use Rattle.tagged.specs.Tags.{Tagged};
 ghost use Rattle.rules.specs.Valid.{InRange};
 ghost use Rattle.tags.specs.Legs.{AllInRange, tagOf};
 

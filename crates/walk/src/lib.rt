@@ -6,17 +6,11 @@ use choice::either;
 use choice::negated;
 use choice::pick;
 use choice::smaller;
+use tagged::PairTally;
 ghost use mathlib.Core.Path.{_≡_};
 ghost use Prim.Native.Nat.{_+_, _-_, _≤_, _<_};
 ghost use lib.ListN.{length};
-ghost use Rattle.walk.specs.Tags.{Tagged, matchedAt, debitKeys, noteAt, Reaches, Walks};
-
-// What is known of the pairs: their number, and whether one was a debit or a credit.
-pub struct PairTally {
-    pub pairs: u64,
-    pub debit: bool,
-    pub credit: bool,
-}
+ghost use Rattle.tagged.specs.Tags.{Tagged, matchedAt, debitKeys, noteAt, Reaches, Walks};
 
 // How many contracts of two legs are matched: those of one group and of two sides.
 fn matched(tx: u64, x: u64, ty: u64, y: u64) -> u64

@@ -1,7 +1,7 @@
 use borrow.Author.Needs.{needs}
 use native.Mathlib.Omega.{arith}
 use borrow.Author.Tests.{eq-eqb, ne-eqb}
-use Rattle.walk.specs.Tags.{seriesAt}
+use Rattle.tagged.specs.Tags.{seriesAt}
 use Rattle.again.specs.Second.{keyAgain}
 use Rattle.again.proofs.second_key.Statement.{statement}
 use Rattle.again.proofs.second_key.Tie as tie

@@ -5,8 +5,8 @@ use mathlib.Core.Bool.{Bool}
 use Prim.Native.Nat.{ℕ, _≤_, _-_, _<_}
 use native.Mathlib.Omega.{arith}
 use lib.ListN.{take, drop}
-use Rattle.walk.specs.declared.PairTally.{PairTally}
-use Rattle.walk.specs.Tags.{legsFrom}
+use Rattle.tagged.specs.declared.PairTally.{PairTally}
+use Rattle.tagged.specs.Tags.{legsFrom}
 use Rattle.loners.specs.Tallies.{aloneAt, allAlone}
 use Rattle.loners.proofs.Alone.{alone-turn, alone-end}
 use Rattle.loners.proofs.loners.Statement.{statement}

@@ -1,4 +1,4 @@
-use Rattle.walk.specs.Tags.{matchedAt}
+use Rattle.tagged.specs.Tags.{matchedAt}
 use Rattle.walk.proofs.matched.Statement.{statement}
 use Rattle.walk.proofs.matched.Tie as tie
 

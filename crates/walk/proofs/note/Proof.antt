@@ -2,7 +2,7 @@
 use borrow.Author.Needs.{needs}
 use native.Mathlib.Omega.{arith}
 use borrow.Author.Tests.{eq-eqb, ne-eqb}
-use Rattle.walk.specs.Tags.{noteAt}
+use Rattle.tagged.specs.Tags.{noteAt}
 use Rattle.walk.proofs.note.Statement.{statement}
 use Rattle.walk.proofs.note.Tie as tie
 

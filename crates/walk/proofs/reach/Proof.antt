@@ -3,8 +3,8 @@ use mathlib.Core.Path.{_≡_, refl, sym, _∙_}
 use Prim.Native.Nat.{ℕ, _≤_, _-_, _<_, _+_}
 use native.Mathlib.Omega.{arith}
 use lib.ListN.{length, getD, length-set}
-use Rattle.walk.proofs.Tagging.{matched-small}
-use Rattle.walk.proofs.Numbered.{inner, inner-turn, inner-skip, inner-legs, inner-tally}
+use Rattle.tagged.proofs.Tagging.{matched-small}
+use Rattle.tagged.proofs.Numbered.{inner, inner-turn, inner-skip, inner-legs, inner-tally}
 use borrow.Author.Needs.{needs}
 use Rattle.walk.proofs.reach.Statement.{statement}
 use Rattle.walk.proofs.reach.Tie as tie

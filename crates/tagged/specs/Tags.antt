@@ -9,7 +9,7 @@ use Rattle.rules.specs.declared.Series.{Series}
 use Rattle.rules.specs.declared.Leg.{Leg}
 use Rattle.rules.specs.Pairing.{Pair, Reached, reach, walk, oneExpiry, oneStrike, isDebit}
 use Rattle.rules.specs.Order.{noLeg}
-use Rattle.walk.specs.declared.PairTally.{PairTally}
+use Rattle.tagged.specs.declared.PairTally.{PairTally}
 
 -- the series that a key says: of the first walk, or of the second
 unfoldable pub seriesAt : Bool → ℕ → Series

@@ -1,6 +1,6 @@
 use Rattle.rules.specs.Market.{acceptableTicks}
-use Rattle.reference.proofs.acceptable_ticks.Statement.{statement}
-use Rattle.reference.proofs.acceptable_ticks.Tie as tie
+use Rattle.distance.proofs.acceptable_ticks.Statement.{statement}
+use Rattle.distance.proofs.acceptable_ticks.Tie as tie
 
 returns : tie.Need-returns
 unfolding acceptableTicks

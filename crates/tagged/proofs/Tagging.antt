@@ -11,8 +11,8 @@ use Rattle.rules.specs.declared.Leg.{Leg}
 use Rattle.rules.specs.Lists.{sameBool}
 use Rattle.rules.specs.Pairing.{pairOf, matched, isDebit}
 use Rattle.rules.proofs.Tests.{and-both}
-use Rattle.walk.specs.declared.PairTally.{PairTally}
-use Rattle.walk.specs.Tags.{seriesAt, legAt, together, matchedAt, debitKeys, debitAt, oneMore, noteAt, noted}
+use Rattle.tagged.specs.declared.PairTally.{PairTally}
+use Rattle.tagged.specs.Tags.{seriesAt, legAt, together, matchedAt, debitKeys, debitAt, oneMore, noteAt, noted}
 
 abbrev Small : ℕ → Type 0
 Small tag = tag < 40000000000000000

@@ -12,8 +12,8 @@ use Rattle.rules.specs.declared.Leg.{Leg}
 use Rattle.rules.specs.Pairing.{Pair, Reached, Walked, less, pairOf, matched, reach, walk}
 use Rattle.rules.specs.Order.{noLeg}
 use Rattle.loops.proofs.Finding as finding
-use Rattle.walk.specs.declared.PairTally.{PairTally}
-use Rattle.walk.specs.Tags.{none, noted}
+use Rattle.tagged.specs.declared.PairTally.{PairTally}
+use Rattle.tagged.specs.Tags.{none, noted}
 
 pub noted-append : (t : PairTally) (ms ns : List Pair) → noted t (ms ++ ns) ≡ noted (noted t ms) ns
 noted-append t [] ns = refl

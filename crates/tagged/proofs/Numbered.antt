@@ -10,11 +10,11 @@ use lib.Seq.{set-getD}
 use Rattle.rules.specs.declared.Leg.{Leg}
 use Rattle.rules.specs.Pairing.{Reached, less, pairOf, matched, reach, walk}
 use Rattle.rules.specs.Order.{noLeg}
-use Rattle.walk.specs.declared.PairTally.{PairTally}
-use Rattle.walk.specs.Tags.{legAt, legsFrom, together, Tagged, matchedAt, noteAt, none, noted, reached}
-use Rattle.walk.proofs.Zip.{zip-length, zip-at, zip-set}
-use Rattle.walk.proofs.Tagging.{matched-tags, note-tags, matched-group}
-use Rattle.walk.proofs.Walking.{View, view, start-legs, start-tally, met, over, put, walked-legs, walked-tally}
+use Rattle.tagged.specs.declared.PairTally.{PairTally}
+use Rattle.tagged.specs.Tags.{legAt, legsFrom, together, Tagged, matchedAt, noteAt, none, noted, reached}
+use Rattle.tagged.proofs.Zip.{zip-length, zip-at, zip-set}
+use Rattle.tagged.proofs.Tagging.{matched-tags, note-tags, matched-group}
+use Rattle.tagged.proofs.Walking.{View, view, start-legs, start-tally, met, over, put, walked-legs, walked-tally}
 
 -- what the inner loop still has to meet, after what it has met
 abbrev pub inner : List ℕ → ℕ → Bool → ℕ → List ℕ → PairTally → ℕ → ℕ → ℕ → View

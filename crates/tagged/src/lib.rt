@@ -1,0 +1,9 @@
+// A walk on numbers, for the code that walks: a tag and the open contracts stand for a leg, a tally for the pairs. Laws
+// only; the functions are in the crates that use them.
+
+// What is known of the pairs: their number, and whether one was a debit or a credit.
+pub struct PairTally {
+    pub pairs: u64,
+    pub debit: bool,
+    pub credit: bool,
+}
