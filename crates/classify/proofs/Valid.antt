@@ -16,8 +16,8 @@ use Rattle.rules.specs.Order.{legsIn, noLeg}
 use Rattle.rules.specs.Pairing.{strikeKey, expiryKey, byStrike}
 use Rattle.rules.specs.Numbers.{isSameSeries, isOtherRoot}
 use Rattle.rules.proofs.Tests.{or-neither}
-use Rattle.rules.proofs.Sorting.{all-perm, perm-sym, somePair-perm}
-use Rattle.rules.proofs.Sequence.{by-strike-is-perm, same-series-turn, other-root-turn}
+use Rattle.laws.proofs.Sorting.{all-perm, perm-sym, somePair-perm}
+use Rattle.laws.proofs.Sequence.{by-strike-is-perm, same-series-turn, other-root-turn}
 use Rattle.sorting.specs.Keys.{EachTwo}
 use Rattle.sorting.proofs.Laws.{each-two-with, each-two-fail}
 use Rattle.tagged.specs.Tags.{seriesAt}

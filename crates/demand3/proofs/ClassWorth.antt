@@ -17,7 +17,7 @@ use Rattle.rules.specs.Pairing.{Pair, Walked, walk, oneExpiry, oneStrike, byExp
 use Rattle.rules.specs.Class.{allOf}
 use Rattle.demand3.specs.Fair.{Has, Fair, ShareExpiry, ShareStrike}
 use Rattle.rules.proofs.Tests.{and-both}
-use Rattle.rules.proofs.Sorting.{all-perm, all-append, perm-sym, sort-is-perm}
+use Rattle.laws.proofs.Sorting.{all-perm, all-append, perm-sym, sort-is-perm}
 use Rattle.demand3.proofs.Worth.{worth, pairsWorth, pairing-worth, walk-all}
 use Rattle.demand3.proofs.Groups.{one-expiry, one-strike, series-eq}
 

@@ -26,14 +26,14 @@ use Rattle.rules.specs.Kinds.{isAccepted, isRefused}
 use Rattle.rules.specs.Numbers.{isBadCount, refusals, refusal, rejection, judged, outcome, checkLegs, checkOrder, Inputs}
 use Rattle.demand3.specs.Demand3.{IsWhole, IsValid, NotRejected, arrival, orderLegs, Arrivals, Demand3}
 use Rattle.rules.proofs.Tests.{and-both, or-either, or-neither, within-both}
-use Rattle.rules.proofs.Sorting.{all-perm, perm-sym, map-perm, length-perm}
+use Rattle.laws.proofs.Sorting.{all-perm, perm-sym, map-perm, length-perm}
 use Rattle.rules.proofs.Numbering.{first-of, first-passes, none-apply}
 use Rattle.demand3.proofs.Worth.{worth, worth-perm}
 use Rattle.demand3.proofs.Units.{Sized, units-perm}
 use Rattle.demand3.proofs.Signs.{worth-is, up-sign, down-sign}
 use Rattle.demand3.proofs.ClassWorth.{has-all}
 use Rattle.demand3.proofs.Sound.{PriceIs, price-is, has-units, class-ls, sound20, sound21, sound22, sound23, sound24}
-use Rattle.rules.proofs.Sequence.{by-strike-is-perm, check-perm}
+use Rattle.laws.proofs.Sequence.{by-strike-is-perm, check-perm}
 use Rattle.demand3.proofs.Slicing.{slices-are, slices-broken, whole-slices}
 
 -- legs whose counts are in their limits have contracts

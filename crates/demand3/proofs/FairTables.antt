@@ -11,7 +11,7 @@ use Rattle.rules.specs.declared.Leg.{Leg}
 use Rattle.rules.specs.Lists.{All}
 use Rattle.rules.specs.Order.{signed, commonDivisor, divided, units, worthOf, netWorth}
 use Rattle.demand3.specs.Fair.{Has, FairExists, FairMoves, FairAgree}
-use Rattle.rules.proofs.Sorting.{all-map}
+use Rattle.laws.proofs.Sorting.{all-map}
 use Rattle.demand3.proofs.ClassWorth.{has-all}
 
 flat : (a m b n : ℕ) → a < m → m < b → (b - a) * n ≤ (b - m) * n + (m - a) * n

@@ -19,7 +19,7 @@ use Rattle.rules.specs.Order.{isYes, gcd, commonDivisor, divided, units}
 use Rattle.rules.specs.Pairing.{Pair, Walked, Reached, less, pairOf, matched, reach, walk, wholeLeg, oneExpiry, oneStrike, byStrike, byExpiry, bothWalks, isDebit}
 use Rattle.rules.specs.Class.{shapeOf, allOf, pairClass, classWith, classOf}
 use Rattle.rules.specs.Numbers.{judged}
-use Rattle.rules.proofs.Divisor.{gcd-zero, gcd-step}
+use Rattle.laws.proofs.Divisor.{gcd-zero, gcd-step}
 
 module _ (k : ℕ) where
   -- the leg with `k` times the contracts

@@ -22,9 +22,9 @@ use Rattle.rules.specs.Pairing.{Walked, bothWalks}
 use Rattle.rules.specs.Class.{isVertical, isButterfly, hasOwnClass, isBox, shapeOf, allOf, pairClass, classWith, classOf}
 use Rattle.rules.specs.Checks.{isLimit, isPositive, isNegative, putTest, callTest, simpleBuy, sizes, isBelow, sameSideBelow, buyBuy, debitCredit, maximumOf, allowance, hasMaximum, maximumValue}
 use Rattle.demand3.specs.Fair.{Has, Fair}
-use Rattle.rules.proofs.Simple.{simple-length}
+use Rattle.laws.proofs.Simple.{simple-length}
 use Rattle.rules.proofs.Tests.{and-both, or-either, not-eq, passed}
-use Rattle.rules.proofs.Sorting.{all-map}
+use Rattle.laws.proofs.Sorting.{all-map}
 use Rattle.demand3.proofs.Worth.{worth}
 use Rattle.demand3.proofs.Units.{Sized, units-order}
 use Rattle.demand3.proofs.Signs.{minus-up, minus-down}

@@ -9,8 +9,8 @@ use Rattle.rules.specs.declared.Series.{Series}
 use Rattle.rules.specs.declared.Leg.{Leg}
 use Rattle.rules.specs.Lists.{All, Perm, sameBool}
 use Rattle.rules.specs.Order.{commonDivisor, divided, units}
-use Rattle.rules.proofs.Divisor.{gcd-divides, gcd-greatest}
-use Rattle.rules.proofs.Sorting.{all-perm, perm-sym, map-perm}
+use Rattle.laws.proofs.Divisor.{gcd-divides, gcd-greatest}
+use Rattle.laws.proofs.Sorting.{all-perm, perm-sym, map-perm}
 use Rattle.demand3.proofs.Worth.{worth}
 
 divides-all : (g : ℕ) (ls : List Leg) → g ∣ commonDivisor ls → All (λ l. g ∣ l .size) ls

@@ -10,7 +10,7 @@ use Rattle.rules.specs.declared.Leg.{Leg}
 use Rattle.rules.specs.Lists.{All, Perm, none, keep, swap, then, sameBool}
 use Rattle.rules.specs.Pairing.{Pair, Walked, pairOf, less, matched, reach, walk, oneExpiry, oneStrike, byExpiry, bothWalks}
 use Rattle.rules.proofs.Tests.{and-both}
-use Rattle.rules.proofs.Sorting.{all-append, sort-is-perm}
+use Rattle.laws.proofs.Sorting.{all-append, sort-is-perm}
 
 -- the contracts of one side (true: bought) times their premiums
 module _ (v : Series → ℕ) (side : Bool) where

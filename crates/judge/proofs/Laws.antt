@@ -17,9 +17,9 @@ use Rattle.rules.specs.Pairing.{byStrike, bothWalks}
 use Rattle.rules.specs.Class.{classOf, shapeOf}
 use Rattle.rules.specs.Numbers.{rejection, judged}
 use Rattle.rules.specs.Valid.{IsValidLeg, UnitWithin}
-use Rattle.rules.proofs.Simple.{simple-same}
-use Rattle.rules.proofs.Sorting.{length-perm}
-use Rattle.rules.proofs.Sequence.{by-strike-is-perm}
+use Rattle.laws.proofs.Simple.{simple-same}
+use Rattle.laws.proofs.Sorting.{length-perm}
+use Rattle.laws.proofs.Sequence.{by-strike-is-perm}
 
 abbrev answerOf : ℕ → ℕ → ℕ → ℕ → OrderAnswer
 answerOf number class shape pairings = record { number = number; class = class; shape = shape; pairings = pairings }

@@ -13,7 +13,7 @@ use Rattle.rules.specs.declared.Leg.{Leg}
 use Rattle.rules.specs.Lists.{All}
 use Rattle.rules.specs.Pairing.{digit, packed, expiryKey, byExpiry}
 use Rattle.rules.specs.Order.{noLeg}
-use Rattle.rules.proofs.Sorting.{all-perm, perm-sym}
+use Rattle.laws.proofs.Sorting.{all-perm, perm-sym}
 use Rattle.sorting.specs.Keys.{sortKeys, tagged, EachTwo}
 use Rattle.sorting.proofs.Laws.{sort-same, by-expiry, each-two-map, tagged-says}
 use Rattle.tagged.specs.Tags.{seriesAt, legAt, legsFrom}

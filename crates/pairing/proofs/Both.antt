@@ -12,7 +12,7 @@ use Rattle.rules.specs.Lists.{All}
 use Rattle.rules.specs.Order.{legsIn, noLeg}
 use Rattle.rules.specs.Pairing.{Walked, walk, oneExpiry, oneStrike, expiryKey, byExpiry, bothWalks}
 use Rattle.rules.specs.Class.{pairClass}
-use Rattle.rules.proofs.Pairings.{pairing-fewer}
+use Rattle.laws.proofs.Pairings.{pairing-fewer}
 use Rattle.sorting.specs.Keys.{sortKeys, tagged, EachTwo}
 use Rattle.tagged.specs.declared.PairTally.{PairTally}
 use Rattle.tagged.specs.Tags.{legAt, legsFrom, Tagged, none, noted, Walks}

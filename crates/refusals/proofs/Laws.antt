@@ -13,7 +13,7 @@ use Rattle.rules.specs.Order.{isSimple}
 use Rattle.rules.specs.Checks.{isPositive, isNegative}
 use Rattle.rules.specs.Numbers.{isBadPrice}
 use Rattle.rules.proofs.Tests.{and-true}
-use Rattle.rules.proofs.Simple.{simple-length}
+use Rattle.laws.proofs.Simple.{simple-length}
 
 pub price-of-first : (t : Terms) (d : Leg) (ls : List Leg) (n : ℕ)
     → isBadPrice t (take n ls)

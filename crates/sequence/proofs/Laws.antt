@@ -9,7 +9,7 @@ use Rattle.rules.specs.declared.Leg.{Leg}
 use Rattle.rules.specs.Lists.{All}
 use Rattle.rules.specs.Pairing.{strikeKey, byStrike}
 use Rattle.rules.specs.Order.{noLeg}
-use Rattle.rules.proofs.Sorting.{all-perm, perm-sym}
+use Rattle.laws.proofs.Sorting.{all-perm, perm-sym}
 use Rattle.sorting.specs.Keys.{sortKeys, tagged, EachTwo}
 use Rattle.sorting.proofs.Laws.{sort-same, by-strike}
 use Rattle.tags.proofs.Places.{places-small, same-map}

@@ -1,6 +1,6 @@
 // The bytes of a symbol, from its parts.
 use digits::byte_of;
-use roots::root_bytes;
+use root_number::root_bytes;
 use rules::SymbolParts;
 ghost use mathlib.Core.Path.{_≡_};
 ghost use Prim.Native.Nat.{_<_};

@@ -8,7 +8,7 @@ use lib.ListN.{length, take, drop, getD}
 use Rattle.rules.specs.declared.Leg.{Leg}
 use Rattle.rules.specs.Lists.{All}
 use Rattle.rules.specs.Order.{gcd, commonDivisor, divided, units, noLeg}
-use Rattle.rules.proofs.Divisor.{gcd-divides}
+use Rattle.laws.proofs.Divisor.{gcd-divides}
 use Rattle.loops.proofs.Finding.{step, over}
 
 pub divisor-of-none : commonDivisor [] ≡ 0

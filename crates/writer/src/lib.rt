@@ -1,6 +1,6 @@
 // The symbol writer.
+use root_number::root_bytes;
 use roots::is_root;
-use roots::root_bytes;
 use rules::SymbolParts;
 use symbol::in_limits;
 use symbol_bytes::symbol_of;

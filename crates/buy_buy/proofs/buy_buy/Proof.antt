@@ -5,7 +5,7 @@ use native.Mathlib.Omega.{arith}
 use lib.ListN.{length, length-map, getD}
 use Rattle.rules.specs.Checks.{isBelow}
 use Rattle.rules.specs.Order.{noLeg}
-use Rattle.rules.proofs.Bounds.{settings-bounds}
+use Rattle.laws.proofs.Bounds.{settings-bounds}
 use Rattle.buy_buy.proofs.Laws.{least-bound, buy-buy-tested, buy-buy-untested}
 use borrow.Author.Needs.{needs}
 use Rattle.buy_buy.proofs.buy_buy.Statement.{statement}

@@ -1,7 +1,7 @@
 -- The product fits by M's bound and the percentage's, and A is at most the preset maximum.
 use native.Mathlib.Omega.{arith}
 use Rattle.rules.specs.Checks.{allowance}
-use Rattle.rules.proofs.Bounds.{settings-bounds}
+use Rattle.laws.proofs.Bounds.{settings-bounds}
 use Rattle.complex_checks.proofs.Laws.{share-bound}
 use Rattle.complex_checks.proofs.allowance.Statement.{statement}
 use Rattle.complex_checks.proofs.allowance.Tie as tie

@@ -1,6 +1,6 @@
 -- The comparison price is within the market's limits, and the distance within the settings'.
 use Rattle.rules.specs.Quote.{isInverted}
-use Rattle.rules.proofs.Bounds.{comparison-bound}
+use Rattle.laws.proofs.Bounds.{comparison-bound}
 use Rattle.inversion.proofs.is_inverted.Statement.{statement}
 use Rattle.inversion.proofs.is_inverted.Tie as tie
 use borrow.Author.Needs.{needs}

@@ -1,7 +1,7 @@
 -- Ticks and tick are within the settings' limits.
 use Rattle.rules.specs.Market.{tickAt}
 use Rattle.rules.specs.Quote.{setDistance}
-use Rattle.rules.proofs.Bounds.{settings-bounds, tick-bound, distance-bound}
+use Rattle.laws.proofs.Bounds.{settings-bounds, tick-bound, distance-bound}
 use Rattle.inversion.proofs.set_distance.Statement.{statement}
 use Rattle.inversion.proofs.set_distance.Tie as tie
 

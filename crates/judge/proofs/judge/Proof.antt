@@ -9,7 +9,7 @@ use Rattle.rules.specs.declared.Legs.{Legs}
 use Rattle.rules.specs.Pairing.{byStrike}
 use Rattle.rules.specs.Numbers.{judged}
 use Rattle.rules.specs.Order.{noLeg, legsIn, isSimple}
-use Rattle.rules.proofs.Simple.{simple-length}
+use Rattle.laws.proofs.Simple.{simple-length}
 use Rattle.judge.proofs.Laws.{one-leg, first-size}
 use borrow.Author.Needs.{needs}
 use Rattle.judge.proofs.judge.Statement.{statement}

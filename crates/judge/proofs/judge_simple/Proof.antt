@@ -1,6 +1,6 @@
 use mathlib.Core.Path.{refl, sym, _∙_}
 use mathlib.Core.Bool.{cond}
-use Rattle.rules.proofs.Simple.{simple-same}
+use Rattle.laws.proofs.Simple.{simple-same}
 use Rattle.judge.proofs.Simple.{judged-one}
 use Rattle.judge.proofs.Laws.{answer}
 use Rattle.judge.proofs.judge_simple.Statement.{statement}

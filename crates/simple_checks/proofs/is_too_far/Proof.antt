@@ -1,6 +1,6 @@
 -- The reference is within the market's limits, and its distance within the settings'.
 use Rattle.rules.specs.Market.{isTooFar}
-use Rattle.rules.proofs.Bounds.{reference-bound}
+use Rattle.laws.proofs.Bounds.{reference-bound}
 use Rattle.simple_checks.proofs.is_too_far.Statement.{statement}
 use Rattle.simple_checks.proofs.is_too_far.Tie as tie
 use borrow.Author.Needs.{needs}

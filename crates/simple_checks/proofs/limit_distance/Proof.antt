@@ -1,6 +1,6 @@
 -- Ticks and tick are within the settings' limits.
 use Rattle.rules.specs.Market.{acceptableTicks, tickAt, limitDistance}
-use Rattle.rules.proofs.Bounds.{acceptable-bound, tick-bound, distance-bound}
+use Rattle.laws.proofs.Bounds.{acceptable-bound, tick-bound, distance-bound}
 use Rattle.simple_checks.proofs.limit_distance.Statement.{statement}
 use Rattle.simple_checks.proofs.limit_distance.Tie as tie
 

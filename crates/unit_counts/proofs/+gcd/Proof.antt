@@ -7,7 +7,7 @@ use native.Mathlib.Omega.{arith}
 use borrow.Fn.Kinds.{In}
 use borrow.Fn.PlainCycle.{Measures, is, falls, and}
 use Rattle.rules.specs.Order.{gcd}
-use Rattle.rules.proofs.Divisor.{gcd-zero, gcd-step}
+use Rattle.laws.proofs.Divisor.{gcd-zero, gcd-step}
 use Rattle.unit_counts.proofs.gcd.Reads as gcd-reads
 use Rattle.unit_counts.proofs.gcd.Kinds as gcd-kinds
 use Rattle.unit_counts.proofs.+gcd.Lts-gcd as gcd-lts

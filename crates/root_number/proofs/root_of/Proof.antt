@@ -1,8 +1,8 @@
 use native.Mathlib.Omega.{arith}
 use Rattle.rules.specs.Numerals.{value}
 use borrow.Author.Needs.{needs}
-use Rattle.roots.proofs.root_of.Statement.{statement}
-use Rattle.roots.proofs.root_of.Tie as tie
+use Rattle.root_number.proofs.root_of.Statement.{statement}
+use Rattle.root_number.proofs.root_of.Tie as tie
 
 returns : tie.Need-returns
 unfolding value

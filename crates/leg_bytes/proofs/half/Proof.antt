@@ -1,8 +1,8 @@
 use native.Mathlib.Omega.{arith}
 use Rattle.rules.specs.Order.{word}
 use borrow.Author.Needs.{needs}
-use Rattle.order_record.proofs.half.Statement.{statement}
-use Rattle.order_record.proofs.half.Tie as tie
+use Rattle.leg_bytes.proofs.half.Statement.{statement}
+use Rattle.leg_bytes.proofs.half.Tie as tie
 
 returns : tie.Need-returns
 unfolding word

@@ -6,19 +6,19 @@ use Prim.Native.Nat.{ℕ}
 use native.Mathlib.Omega.{arith}
 use lib.Dec.{eqb}
 use borrow.Author.Tests.{eqb-true, eqb-false, eq-eqb, ne-eqb}
 use Rattle.rules.specs.declared.RawLeg.{RawLeg}
 use Rattle.rules.specs.declared.Terms.{Terms}
 use Rattle.rules.specs.declared.Leg.{Leg}
 use Rattle.rules.specs.declared.Settings.{Settings}
 use Rattle.rules.specs.declared.Market.{Market}
 use Rattle.rules.specs.Lists.{Perm, sameBool}
 use Rattle.rules.specs.Symbol.{isSymbol}
 use Rattle.rules.specs.Order.{legOf, legsOf}
 use Rattle.rules.specs.Pairing.{digit, strikeKey, wholeLeg, byStrike}
 use Rattle.rules.specs.Checks.{isPositive, isNegative}
 use Rattle.rules.specs.Numbers.{isBadCount, isSameSeries, isOtherRoot, isBadPrice, refusal, outcome, judged, checkLegs}
-use Rattle.rules.proofs.Simple.{simple-same}
-use Rattle.rules.proofs.Sorting.{map-perm, length-perm, any-perm, all-test-perm, somePair-perm, sort-perm, sort-is-perm}
+use Rattle.laws.proofs.Simple.{simple-same}
+use Rattle.laws.proofs.Sorting.{map-perm, length-perm, any-perm, all-test-perm, somePair-perm, sort-perm, sort-is-perm}
 
 digit-inj : (a b : Bool) → digit a ≡ digit b → a ≡ b
 digit-inj true true h = refl

@@ -1,8 +1,8 @@
 use native.Mathlib.Nat.{div-one, add-zero}
 use Rattle.rules.specs.Numerals.{numeral}
 use borrow.Author.Needs.{needs}
-use Rattle.roots.proofs.root_bytes.Statement.{statement}
-use Rattle.roots.proofs.root_bytes.Tie as tie
+use Rattle.root_number.proofs.root_bytes.Statement.{statement}
+use Rattle.root_number.proofs.root_bytes.Tie as tie
 
 returns : tie.Need-returns
 unfolding numeral

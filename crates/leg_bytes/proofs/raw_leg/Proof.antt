@@ -1,8 +1,8 @@
 use borrow.Author.Needs.{needs}
 use native.Mathlib.Omega.{arith}
-use Rattle.order_record.proofs.Laws.{bought, sold}
-use Rattle.order_record.proofs.raw_leg.Statement.{statement}
-use Rattle.order_record.proofs.raw_leg.Tie as tie
+use Rattle.leg_bytes.proofs.Laws.{bought, sold}
+use Rattle.leg_bytes.proofs.raw_leg.Statement.{statement}
+use Rattle.leg_bytes.proofs.raw_leg.Tie as tie
 
 returns : tie.Need-returns
 returns c = bought _ _ (c .before .before .bytes-of .ensures) (c .before .word .ensures) (omega arith)

@@ -4,9 +4,9 @@ use mathlib.Core.Path.{_≡_, refl, sym, ap, _∙_}
 use Prim.Native.Nat.{ℕ, _≤_, _-_}
 use lib.ListN.{length, take, length-set}
 use lib.Seq.{take-all}
-use Rattle.order_record.proofs.Laws.{copied}
-use Rattle.order_record.proofs.bytes_of.Statement.{statement}
-use Rattle.order_record.proofs.bytes_of.Tie as tie
+use Rattle.leg_bytes.proofs.Laws.{copied}
+use Rattle.leg_bytes.proofs.bytes_of.Statement.{statement}
+use Rattle.leg_bytes.proofs.bytes_of.Tie as tie
 
 abbrev Inv-loop : tie.InvT-loop
 Inv-loop symbol copy₀ i₀ copy i = (take i copy ≡ take i symbol) × (i ≤ 21) × (length copy ≡ 21)

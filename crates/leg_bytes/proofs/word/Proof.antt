@@ -1,8 +1,8 @@
 use native.Mathlib.Omega.{arith}
-use Rattle.order_record.proofs.Laws.{word-read}
+use Rattle.leg_bytes.proofs.Laws.{word-read}
 use borrow.Author.Needs.{needs}
-use Rattle.order_record.proofs.word.Statement.{statement}
-use Rattle.order_record.proofs.word.Tie as tie
+use Rattle.leg_bytes.proofs.word.Statement.{statement}
+use Rattle.leg_bytes.proofs.word.Tie as tie
 
 returns : tie.Need-returns
 returns c = rw (c .half2 .ensures .0, c .before .before .before .before .before .half .ensures .0) (word-read _ (omega arith))
