@@ -1,7 +1,7 @@
 // The day that exists, in the years 2000 to 2099.
+use amounts::pick;
+use amounts::within;
 use choice::both;
-use choice::pick;
-use choice::within;
 ghost use mathlib.Core.Path.{_≡_};
 ghost use Prim.Native.Nat.{_≤_};
 ghost use Rattle.rules.specs.Symbol.{leapDay, daysIn, dayExists};

@@ -1,6 +1,6 @@
 // The tests of a list one after another, each as one step.
+use amounts::pick;
 use choice::both;
-use choice::pick;
 ghost use mathlib.Core.Path.{_≡_};
 ghost use mathlib.Core.List.{List, _∷_};
 ghost use mathlib.Core.Bool.{Bool, _&&_};

@@ -1,7 +1,7 @@
 // The class of unit legs.
+use amounts::pick;
 use choice::both;
 use choice::choose;
-use choice::pick;
 use rules::Leg;
 use rules::Legs;
 use shape::is_butterfly;

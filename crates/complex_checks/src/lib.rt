@@ -1,11 +1,11 @@
 // The checks of a complex order: 22, 23 and 24, and the first of them that applies. `us` are the unit legs in the first
 // walk's sequence.
+use amounts::greater;
+use amounts::smaller;
 use buy_buy::buy_buy;
 use chain::checked;
 use choice::both;
 use choice::either;
-use choice::greater;
-use choice::smaller;
 use rules::Legs;
 use rules::Settings;
 use rules::Terms;

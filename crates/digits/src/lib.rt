@@ -1,5 +1,5 @@
 // Decimal digits: tested in a slice, read as numbers, and written.
-use choice::wide;
+use amounts::wide;
 ghost use mathlib.Core.Path.{_≡_};
 ghost use Prim.Native.Nat.{_+_, _-_, _*_, _^_, _≤_, _<_};
 ghost use lib.ListN.{length};

@@ -1,5 +1,5 @@
 // A valid order: its class, shape and pairings, and the first check that rejects it.
-use choice::pick;
+use amounts::pick;
 use classify::classify;
 use rules::Leg;
 use rules::Legs;

@@ -1,5 +1,5 @@
 // A leg of the host's bytes: 21 of the symbol and 8 of the count.
-use choice::wide;
+use amounts::wide;
 use rules::RawLeg;
 ghost use mathlib.Core.Path.{_≡_};
 ghost use mathlib.Core.List.{[], _∷_};

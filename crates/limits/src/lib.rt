@@ -1,6 +1,6 @@
 // The limits of settings and market, each as one step in the definition's sequence.
+use amounts::within;
 use chain::also;
-use choice::within;
 use rules::Market;
 use rules::Settings;
 ghost use mathlib.Core.Path.{_≡_};

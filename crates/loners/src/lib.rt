@@ -1,8 +1,8 @@
 // Loners beside pairs, and the class that both give.
+use amounts::pick;
 use choice::both;
 use choice::either;
 use choice::negated;
-use choice::pick;
 use tagged::PairTally;
 ghost use mathlib.Core.Path.{_≡_};
 ghost use Prim.Native.Nat.{_≤_};

@@ -1,7 +1,7 @@
 // The quote check.
+use amounts::pick;
 use chain::checked;
 use choice::both;
-use choice::pick;
 use inversion::quote_inversion;
 use put_call::call_test;
 use put_call::put_test;

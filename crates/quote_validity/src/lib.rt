@@ -1,8 +1,8 @@
 // The refusals of a quote: the first number that applies, and root and series as read.
+use amounts::within;
 use chain::otherwise;
 use choice::either;
 use choice::negated;
-use choice::within;
 use limits::market_holds;
 use limits::settings_hold;
 use reading::series_of;

@@ -1,9 +1,9 @@
 // The tests of refusals 5 and 8: counts, and the price.
+use amounts::within;
 use choice::both;
 use choice::choose;
 use choice::either;
 use choice::negated;
-use choice::within;
 use rules::Legs;
 use rules::Order;
 use rules::Terms;

@@ -1,5 +1,5 @@
 // A root's six bytes as one number, the first byte highest, and back.
-use choice::wide;
+use amounts::wide;
 ghost use mathlib.Core.Path.{_≡_};
 ghost use mathlib.Core.List.{[], _∷_};
 ghost use Prim.Native.Nat.{_<_, _^_};

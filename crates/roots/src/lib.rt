@@ -1,9 +1,9 @@
 // What a root is: one to six letters and digits, a letter first, then spaces.
+use amounts::wide;
+use amounts::within;
 use choice::both;
 use choice::choose;
 use choice::either;
-use choice::wide;
-use choice::within;
 ghost use mathlib.Core.Path.{_≡_};
 ghost use mathlib.Core.Bool.{_||_};
 ghost use mathlib.Core.List.{[], _∷_};

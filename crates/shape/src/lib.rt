@@ -1,8 +1,8 @@
 // The shape of unit legs.
+use amounts::pick;
 use choice::both;
 use choice::either;
 use choice::negated;
-use choice::pick;
 use rules::Leg;
 use rules::Legs;
 use rules::Series;

@@ -1,6 +1,6 @@
 // Strikes by their differences, and M, the most that the shape of unit legs can be worth.
 // A sum of two strikes could pass 64 bits, so differences are compared in its place: any strikes will do.
-use choice::pick;
+use amounts::pick;
 use rules::Legs;
 ghost use mathlib.Core.Path.{_≡_};
 ghost use Prim.Native.Nat.{_+_, _-_, min, max};

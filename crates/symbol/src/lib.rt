@@ -1,9 +1,9 @@
 // The symbol reader.
+use amounts::wide;
+use amounts::within;
 use calendar::day_exists;
 use choice::both;
 use choice::either;
-use choice::wide;
-use choice::within;
 use digits::are_digits;
 use digits::number;
 use root_number::root_of;

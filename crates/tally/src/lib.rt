@@ -1,9 +1,9 @@
 // A session's tally: its own test, and what it makes of the answer to an order.
+use amounts::pick;
+use amounts::within;
 use answers::refused;
 use choice::either;
 use choice::negated;
-use choice::pick;
-use choice::within;
 use rules::OrderAnswer;
 use rules::TalliedAnswer;
 use rules::Tally;

@@ -1,11 +1,11 @@
 // One walk over legs that are listed latest walked first. A leg's tag is its key in the walk's sequence, doubled, and
 // one more where it is bought: so the group is the tag without the key's last eight digits and the side.
+use amounts::pick;
+use amounts::smaller;
 use choice::both;
 use choice::choose;
 use choice::either;
 use choice::negated;
-use choice::pick;
-use choice::smaller;
 use tagged::PairTally;
 ghost use mathlib.Core.Path.{_≡_};
 ghost use Prim.Native.Nat.{_+_, _-_, _≤_, _<_};

@@ -1,4 +1,5 @@
 // The symbol writer.
+use choice::both;
 use root_number::root_bytes;
 use roots::is_root;
 use rules::SymbolParts;
@@ -19,7 +20,7 @@ fn in_layout(p: SymbolParts) -> bool
         return false;
     }
     let b = root_bytes(p.root);
-    choice::both(is_root(b[0], b[1], b[2], b[3], b[4], b[5]), in_limits(p))
+    both(is_root(b[0], b[1], b[2], b[3], b[4], b[5]), in_limits(p))
 }
 
 // The buffer's first 21 bytes become the symbol; the others stay.
