@@ -1,665 +1,446 @@
 /*
  * The checks for a trading desk: reads orders and quotes, one to a line, and prints the library's
- * verdict on each in words. `form`, just below, says how a line is written; --help prints it.
+ * verdict on each in words. host/desk.help says how a line is written and what is printed.
  *
- * No rule of the checks is here. What can be said to the library goes to it as it was written, so
- * that the refusal is the library's; only what cannot be said to it is a line that cannot be read.
+ * No rule of the checks is here. What is said of a refusal beside its meaning is learnt by asking
+ * the library again: of a leg by itself, at another price, with one field of the terms alone.
  */
+#define _POSIX_C_SOURCE 200809L /* for fstat and fileno */
+
 #include "answers.h"
 #include "option_price_check.h"
+#include "requests.h"
 
 #include <errno.h>
 #include <inttypes.h>
-#include <stdbool.h>
-#include <stdio.h>
-#include <string.h>
+#include <sys/stat.h>
 
-static const char *const form[] = {
-    "usage: desk [FILE]     checks the orders and quotes of FILE, or of standard input",
-    "       desk --help     prints this",
-    "",
-    "A line, of at most 4096 bytes, is one of these; [ ] is optional, .. is more of the same:",
-    "  order PRICE [LEG [; LEG ..]] [WORD ..]    checks an order, and counts it in the tally",
-    "  quote SERIES BID OFFER [resting]          checks a quote; resting: one is resting already",
-    "  set NAME=VALUE [NAME=VALUE ..]            changes settings or market for the lines below",
-    "  reset                                     goes back to the settings and market at the start",
-    "",
-    "  LEG     COUNT SERIES, at most 100 of them",
-    "  SERIES  ROOT YYMMDD TYPE STRIKE, such as SPX 270115 C 4500.000",
-    "  PRICE   dollars, after + or - or no sign; positive is paid, negative received; of a market",
-    "          order the price at which it would execute",
-    "  COUNT   + or - and digits: +1 buys one contract, -1 sells one",
-    "  ROOT    1 to 8 characters",
-    "  YYMMDD  six digits, in the years 2000 to 2099",
-    "  TYPE    one character: C for a call, P for a put",
-    "  STRIKE, BID, OFFER   dollars, without a sign",
-    "  WORD    market, stop, manual or opening, each at most once; without market, a limit order",
-    "  NAME    a field of struct opc_settings or struct opc_market, such as nbo or set_ticks",
-    "  VALUE   digits: mills (0.001 dollar) or ticks, 0 or 1 for a switch or a flag, as its field",
-    "",
-    "Dollars are digits, then optionally a point and one to three digits. Spaces and tabs part the",
-    "fields, and none stand within one; a semicolon needs none about it. From a # that begins a",
-    "field to the end of the line is a comment. Capital and small letters differ. A line ends in",
-    "LF or CR LF, and holds no control character but tabs. At the start the settings are those of",
-    "document 01's examples, and the market is open with every value missing.",
-    "",
-    "For each order or quote a line is printed: the input's line, the number, and in words its",
-    "author and meaning; then of an order that is not refused class, shape and pairings, and of a",
-    "quote whether the resting one is to be cancelled. Last comes the tally of the orders.",
-    "",
-    "A field that the symbol's layout or a limit forbids still goes to the library, which refuses",
-    "the order or quote. A line that is not of this form gets a message with line and column on",
-    "standard error, and changes nothing.",
-    "",
-    "Exit status: 0, or 1 if a line could not be read, or 2 for a wrong usage or a file error.",
+enum { EXIT_READ = 0, EXIT_UNREAD = 1, EXIT_TROUBLE = 2, EXIT_NOT_ACCEPTED = 3 };
+
+/* The orders or the quotes that were answered, counted. */
+struct session {
+    struct opc_tally tally;
+    uint64_t given[COUNT(number_rows)]; /* how often, of each row's number */
 };
 
-/* Of a line, and of an order; more cannot be read. */
-#define LINE_LENGTH 4096
-#define LEGS_READ 100
+static const struct session fresh_session = {.tally = OPC_FRESH_TALLY};
 
-enum { EXIT_READ = 0, EXIT_UNREAD = 1, EXIT_TROUBLE = 2 };
-
-/* ---- a line and its fields ---- */
-
-struct line {
-    char text[LINE_LENGTH];
-    size_t len;
-    bool is_longer;      /* than can be held */
-    size_t at;           /* where the next field is looked for */
-    size_t fault_at;     /* where the line could not be read, */
-    const char *field;   /* in which field, */
-    const char *trouble; /* and why */
+struct desk {
+    struct terms terms;
+    struct session orders, quotes;
+    uint64_t line_number;
+    bool all_accepted; /* every order, quote and set */
 };
 
-/* A part of the line's text without blanks; of length 0 at the line's end. */
-struct field {
-    const char *text;
-    size_t len;
-};
+/* ---- verdicts in words, and what settings and market are at fault ---- */
 
-static bool fault_at(struct line *line, size_t at, const char *field, const char *trouble) {
-    line->fault_at = at;
-    line->field = field;
-    line->trouble = trouble;
-    return false;
+/* The number that a valid quote gets in these terms: a refusal is one of the terms. */
+static uint64_t number_in(const struct terms *terms) {
+    static const struct opc_quote quote = {
+        .symbol = (const uint8_t *)"A     270115C00001000",
+        .symbol_len = OPC_SYMBOL_LENGTH,
+        .bid = 1,
+        .offer = 2,
+    };
+    return opc_answer_quote(&quote, &terms->settings, &terms->market).number;
 }
 
-static bool fault(struct line *line, struct field at, const char *field, const char *trouble) {
-    return fault_at(line, (size_t)(at.text - line->text), field, trouble);
-}
-
-static bool is_blank(char c) { return c == ' ' || c == '\t'; }
-
-static bool is_digit(char c) { return c >= '0' && c <= '9'; }
-
-static bool is(struct field field, const char *word) {
-    return field.len == strlen(word) && memcmp(field.text, word, field.len) == 0;
-}
-
-/* The field that comes next, which stays the next one. */
-static struct field next_field(const struct line *line) {
-    size_t start = line->at;
-    while (start < line->len && is_blank(line->text[start])) {
-        start++;
+/* Whether the field, with all others as at the start, gets the number. */
+static bool is_outside(const struct terms *terms, const struct settable *settable,
+                       uint64_t number) {
+    struct terms asked = first_terms;
+    uint64_t value = value_of(terms, settable);
+    put_value(&asked, settable, value);
+    /* It is held to the maximum too, which by itself may be any that goes with it. */
+    if (settable->place == offsetof(struct terms, settings.preset_minimum)) {
+        asked.settings.preset_maximum = value;
     }
-    size_t end = start;
-    if (end < line->len && line->text[end] == ';') {
-        end++;
-    } else if (end < line->len && line->text[end] != '#') {
-        while (end < line->len && !is_blank(line->text[end]) && line->text[end] != ';') {
-            end++;
+    return number_in(&asked) == number;
+}
+
+/* Whether the presets get the number as they are, and would not with their values exchanged. */
+static bool do_presets_cross(const struct terms *terms, uint64_t number) {
+    struct terms asked = first_terms;
+    asked.settings.preset_minimum = terms->settings.preset_minimum;
+    asked.settings.preset_maximum = terms->settings.preset_maximum;
+    if (number_in(&asked) != number) {
+        return false;
+    }
+    asked.settings.preset_minimum = terms->settings.preset_maximum;
+    asked.settings.preset_maximum = terms->settings.preset_minimum;
+    return number_in(&asked) != number;
+}
+
+/* Prints which fields get the terms refused with the number; false where none can be named. */
+static bool print_fields_at_fault(const struct terms *terms, uint64_t number) {
+    const char *between = "";
+    for (size_t i = 0; i < COUNT(settables); i++) {
+        if (is_outside(terms, &settables[i], number)) {
+            printf("%s%s is outside its limits", between, settables[i].name);
+            between = ", ";
         }
     }
-    return (struct field){line->text + start, end - start};
+    if (do_presets_cross(terms, number)) {
+        printf("%spreset_minimum is above preset_maximum", between);
+        between = ", ";
+    }
+    return between[0] != '\0';
 }
 
-static void pass(struct line *line, struct field field) {
-    line->at = (size_t)(field.text - line->text) + field.len;
-}
-
-/* The next field, which the line must have: neither its end nor the leg's. */
-static bool take(struct line *line, const char *name, struct field *field) {
-    *field = next_field(line);
-    if (field->len == 0 || is(*field, ";")) {
-        return fault(line, *field, name, "is missing");
-    }
-    pass(line, *field);
-    return true;
-}
-
-static bool is_at_end(struct line *line) {
-    struct field rest = next_field(line);
-    return rest.len == 0 || fault(line, rest, "line", "has a field that does not belong here");
-}
-
-/* ---- numbers, exact: they are read whole, or not at all ---- */
-
-static const char too_large[] = "is too large to be read";
-
-/* Appends the digits that a field begins with to a number; gives how many, and if it still fits. */
-static size_t read_digits(struct field field, uint64_t *number, bool *fits) {
-    size_t i = 0;
-    for (; i < field.len && is_digit(field.text[i]); i++) {
-        uint64_t digit = (uint64_t)(field.text[i] - '0');
-        *fits = *fits && *number <= (UINT64_MAX - digit) / 10;
-        *number = *number * 10 + digit;
-    }
-    return i;
-}
-
-static struct field without(struct field field, size_t first) {
-    return (struct field){field.text + first, field.len - first};
-}
-
-/* Digits alone. Gives what is wrong with them, or NULL. */
-static const char *read_whole(struct field field, uint64_t *number) {
-    bool fits = true;
-    *number = 0;
-    size_t digits = read_digits(field, number, &fits);
-    if (digits == 0 || digits != field.len) {
-        return "is not a whole number";
-    }
-    return fits ? NULL : too_large;
-}
-
-/* Dollars without a sign, as mills. Gives what is wrong with them, or NULL. */
-static const char *read_dollars(struct field field, uint64_t *mills) {
-    static const char not_dollars[] = "is not a number of dollars, such as 1.25";
-    bool fits = true;
-    *mills = 0;
-    size_t whole = read_digits(field, mills, &fits);
-    size_t decimals = 0;
-    if (whole == 0) {
-        return not_dollars;
-    }
-    field = without(field, whole);
-    if (field.len > 0) {
-        decimals = field.text[0] == '.' ? read_digits(without(field, 1), mills, &fits) : 0;
-        if (decimals == 0 || decimals + 1 != field.len) {
-            return not_dollars;
-        }
-    }
-    if (decimals > 3) {
-        return "has more than three decimals";
-    }
-    struct field zeros = {"000", 3 - decimals};
-    read_digits(zeros, mills, &fits);
-    return fits ? NULL : too_large;
-}
-
-/* The sign that a field begins with, or 0. */
-static char sign_of(struct field field) {
-    return field.len > 0 && (field.text[0] == '+' || field.text[0] == '-') ? field.text[0] : 0;
-}
-
-/* A size with its sign. Gives what is wrong with it, or NULL. */
-static const char *with_sign(char sign, uint64_t size, int64_t *number) {
-    if (size > (uint64_t)INT64_MAX + (sign == '-' ? 1 : 0)) {
-        return too_large;
-    }
-    /* The least number has a size that is no int64_t. */
-    *number = sign == '-' && size > 0 ? -(int64_t)(size - 1) - 1 : (int64_t)size;
-    return NULL;
-}
-
-/* ---- the fields of orders and quotes ---- */
-
-static bool take_dollars(struct line *line, const char *name, uint64_t *mills) {
-    struct field field;
-    if (!take(line, name, &field)) {
-        return false;
-    }
-    const char *trouble = read_dollars(field, mills);
-    return trouble == NULL || fault(line, field, name, trouble);
-}
-
-static bool take_price(struct line *line, int64_t *price) {
-    struct field field;
-    if (!take(line, "price", &field)) {
-        return false;
-    }
-    char sign = sign_of(field);
-    uint64_t mills;
-    const char *trouble = read_dollars(without(field, sign != 0), &mills);
-    trouble = trouble == NULL ? with_sign(sign, mills, price) : trouble;
-    return trouble == NULL || fault(line, field, "price", trouble);
-}
-
-static bool take_count(struct line *line, int64_t *count) {
-    struct field field;
-    if (!take(line, "count", &field)) {
-        return false;
-    }
-    char sign = sign_of(field);
-    uint64_t size;
-    const char *trouble = sign == 0 ? "does not begin with + or -" : NULL;
-    trouble = trouble == NULL ? read_whole(without(field, 1), &size) : trouble;
-    trouble = trouble == NULL ? with_sign(sign, size, count) : trouble;
-    return trouble == NULL || fault(line, field, "count", trouble);
-}
-
-/* A root is six bytes with spaces at the end; two more still are a number, so the library's. */
-static bool take_root(struct line *line, uint64_t *root) {
-    struct field field;
-    if (!take(line, "root", &field)) {
-        return false;
-    }
-    if (field.len > sizeof *root) {
-        return fault(line, field, "root", "has more than eight characters");
-    }
-    *root = 0;
-    for (size_t i = 0; i < field.len || i < 6; i++) {
-        *root = *root << 8 | (uint8_t)(i < field.len ? field.text[i] : ' ');
-    }
-    return true;
-}
-
-static bool take_expiry(struct line *line, struct opc_symbol_parts *parts) {
-    struct field field;
-    uint64_t yymmdd;
-    if (!take(line, "expiry", &field)) {
-        return false;
-    }
-    if (field.len != 6 || read_whole(field, &yymmdd) != NULL) {
-        return fault(line, field, "expiry", "is not six digits, yymmdd");
-    }
-    parts->year = 2000 + yymmdd / 10000;
-    parts->month = yymmdd / 100 % 100;
-    parts->day = yymmdd % 100;
-    return true;
-}
-
-static bool take_type(struct line *line, uint64_t *option_type) {
-    struct field field;
-    if (!take(line, "type", &field)) {
-        return false;
-    }
-    if (field.len != 1) {
-        return fault(line, field, "type", "is not one character, C or P");
-    }
-    *option_type = (uint8_t)field.text[0];
-    return true;
-}
-
-/*
- * Writes the series' symbol. Where no symbol has these parts, the writer leaves the zeros, which
- * are outside the layout too: so the check itself refuses them, in its own sequence of refusals.
+/* The number, its outcome, and for a refusal whose fault it is; of the terms it names the fields.
  */
-static bool take_series(struct line *line, uint8_t symbol[OPC_SYMBOL_LENGTH]) {
-    struct opc_symbol_parts parts;
-    uint64_t number;
-    if (!take_root(line, &parts.root) || !take_expiry(line, &parts) ||
-        !take_type(line, &parts.option_type) || !take_dollars(line, "strike", &parts.strike)) {
-        return false;
-    }
-    memset(symbol, 0, OPC_SYMBOL_LENGTH);
-    opc_write_symbol_parts(&parts, symbol, OPC_SYMBOL_LENGTH, &number);
-    return true;
-}
-
-/* Reads words to the line's end, and sets the flag of each, which must be one of the names. */
-static bool take_words(struct line *line, const char *const names[], uint64_t *const flags[],
-                       size_t len) {
-    for (struct field word = next_field(line); word.len > 0; word = next_field(line)) {
-        size_t i = 0;
-        while (i < len && !is(word, names[i])) {
-            i++;
-        }
-        if (i == len) {
-            return is_at_end(line);
-        }
-        if (*flags[i] != 0) {
-            return fault(line, word, names[i], "is there twice");
-        }
-        *flags[i] = 1;
-        pass(line, word);
-    }
-    return true;
-}
-
-/* ---- verdicts in words ---- */
-
-/* Prints the number with its words. */
-static void print_verdict(uint64_t number) {
+static void print_verdict(uint64_t number, const struct terms *terms) {
     const struct number_row *row = row_of(number);
     enum opc_outcome outcome = opc_outcome_of(number);
     printf("%" PRIu64 " %s", number, outcome_name(outcome));
-    if (outcome == OPC_OUTCOME_REFUSED) {
-        printf(" by the doing of the %s: %s", row->author, row->meaning);
-    } else if (outcome == OPC_OUTCOME_REJECTED) {
+    if (outcome == OPC_OUTCOME_REJECTED) {
         printf(" by %s", row->meaning);
+    } else if (outcome == OPC_OUTCOME_REFUSED) {
+        printf(", fault of the %s: ", row->author);
+        bool is_of_terms = number == OPC_BAD_SETTING || number == OPC_BAD_MARKET;
+        if (!is_of_terms || !print_fields_at_fault(terms, number)) {
+            printf("%s", row->meaning);
+        }
     }
 }
 
-static void print_order_answer(uint64_t line_number, const struct opc_answer *answer) {
-    printf("%" PRIu64 ": order: ", line_number);
-    print_verdict(answer->number);
-    if (opc_outcome_of(answer->number) != OPC_OUTCOME_REFUSED) {
-        printf("; class %s, shape %s, %" PRIu64 " %s", class_name(answer->class_),
-               shape_name(answer->shape), answer->pairings,
-               answer->pairings == 1 ? "pairing" : "pairings");
+/* ---- what of an order or a quote is at fault ---- */
+
+static uint64_t number_of_order(const struct opc_order *order) {
+    return opc_answer_order(order, &first_terms.settings, &first_terms.market).number;
+}
+
+/* The number that two legs of the order get as an order of their own; twice the same leg is one. */
+static uint64_t number_of_legs(const struct opc_order *order, size_t first, size_t second) {
+    const size_t legs[] = {first, second};
+    const size_t len = first == second ? 1 : 2;
+    uint8_t symbols[COUNT(legs) * OPC_SYMBOL_LENGTH];
+    uint8_t counts[COUNT(legs) * OPC_COUNT_LENGTH];
+    for (size_t i = 0; i < len; i++) {
+        memcpy(symbols + i * OPC_SYMBOL_LENGTH, order->symbols + legs[i] * OPC_SYMBOL_LENGTH,
+               OPC_SYMBOL_LENGTH);
+        memcpy(counts + i * OPC_COUNT_LENGTH, order->counts + legs[i] * OPC_COUNT_LENGTH,
+               OPC_COUNT_LENGTH);
+    }
+    struct opc_order asked = *order;
+    asked.symbols = symbols;
+    asked.symbols_len = len * OPC_SYMBOL_LENGTH;
+    asked.counts = counts;
+    asked.counts_len = len * OPC_COUNT_LENGTH;
+    return number_of_order(&asked);
+}
+
+/* Prints the first leg that gets the number by itself, or else the first two that do together. */
+static void print_legs_at_fault(const struct opc_order *order, size_t len, uint64_t number) {
+    for (size_t i = 0; i < len; i++) {
+        if (number_of_legs(order, i, i) == number) {
+            printf(": leg %zu", i + 1);
+            return;
+        }
+    }
+    for (size_t i = 0; i < len; i++) {
+        for (size_t k = i + 1; k < len; k++) {
+            if (number_of_legs(order, i, k) == number) {
+                printf(": legs %zu and %zu", i + 1, k + 1);
+                return;
+            }
+        }
+    }
+}
+
+/* What is wrong with a price that is refused: asked at its size with each sign. */
+static const char *price_trouble(const struct opc_order *order) {
+    struct opc_order asked = *order;
+    /* The least number has a size that is no int64_t. */
+    int64_t size = order->price < -INT64_MAX ? INT64_MAX : imaxabs(order->price);
+    asked.price = size == 0 ? 1 : size;
+    if (number_of_order(&asked) != OPC_BAD_PRICE) {
+        return "the price should be above 0";
+    }
+    asked.price = -asked.price;
+    return number_of_order(&asked) != OPC_BAD_PRICE ? "the price should be below 0" : "too large";
+}
+
+static void print_order_fault(const struct opc_order *order, uint64_t number) {
+    size_t len = order->counts_len / OPC_COUNT_LENGTH;
+    switch (number) {
+    case OPC_BAD_LEG_COUNT:
+        printf(": %zu legs", len);
+        break;
+    case OPC_BAD_SYMBOL:
+    case OPC_BAD_COUNT:
+    case OPC_SERIES_TWICE:
+    case OPC_ROOTS_DIFFER:
+        print_legs_at_fault(order, len, number);
+        break;
+    case OPC_BAD_PRICE:
+        printf(": %s", price_trouble(order));
+        break;
+    default:
+        break;
+    }
+}
+
+/* Whether a quote can have the price, asked with the next price on either side of it. */
+static bool is_quotable(const struct opc_quote *quote, uint64_t price) {
+    struct opc_quote asked = *quote;
+    for (uint64_t bid = price - 1; bid != price + 1; bid++) {
+        asked.bid = bid;
+        asked.offer = bid + 1;
+        if (opc_answer_quote(&asked, &first_terms.settings, &first_terms.market).number !=
+            OPC_BAD_QUOTE) {
+            return true;
+        }
+    }
+    return false;
+}
+
+static void print_quote_fault(const struct opc_quote *quote, uint64_t number) {
+    if (number == OPC_BAD_QUOTE) {
+        bool bid = is_quotable(quote, quote->bid);
+        bool offer = is_quotable(quote, quote->offer);
+        printf(": %s", bid && offer ? "the bid is not below the offer"
+                       : bid        ? "the offer is outside its limits"
+                       : offer      ? "the bid is outside its limits"
+                                    : "bid and offer are outside their limits");
+    }
+}
+
+/* ---- orders and quotes ---- */
+
+static void print_session(const char *name, const struct session *session) {
+    const struct opc_tally *tally = &session->tally;
+    if (tally->seen == 0) {
+        return;
+    }
+    printf("tally of %s: %" PRIu64 " seen, %" PRIu64 " refused, %" PRIu64 " accepted, %" PRIu64
+           " rejected\n",
+           name, tally->seen, tally->refused, tally->accepted, tally->rejected);
+    for (size_t i = 0; i < COUNT(number_rows); i++) {
+        if (session->given[i] > 0) {
+            printf("  %" PRIu64 " %s: %" PRIu64 "\n", number_rows[i].number, number_rows[i].word,
+                   session->given[i]);
+        }
+    }
+}
+
+static void note(struct desk *desk, struct session *session, uint64_t number) {
+    desk->all_accepted = desk->all_accepted && number == OPC_ACCEPTED;
+    for (size_t i = 0; i < COUNT(number_rows); i++) {
+        session->given[i] += number_rows[i].number == number;
+    }
+}
+
+static void answer_order(struct desk *desk, const struct opc_order *order) {
+    /* A full tally is printed, and the next one begins: no order goes unchecked for it. */
+    if (desk->orders.tally.seen == OPC_MOST_TALLIED) {
+        print_session("orders", &desk->orders);
+        desk->orders = fresh_session;
+    }
+    struct opc_answer answer = opc_answer_order_tallied(order, &desk->terms.settings,
+                                                        &desk->terms.market, &desk->orders.tally);
+    note(desk, &desk->orders, answer.number);
+    printf("%" PRIu64 ": order: ", desk->line_number);
+    print_verdict(answer.number, &desk->terms);
+    if (opc_outcome_of(answer.number) == OPC_OUTCOME_REFUSED) {
+        print_order_fault(order, answer.number);
+    } else {
+        printf("; class %s, shape %s, %" PRIu64 " %s", class_name(answer.class_),
+               shape_name(answer.shape), answer.pairings,
+               answer.pairings == 1 ? "pairing" : "pairings");
     }
     printf("\n");
 }
 
-static void print_quote_answer(uint64_t line_number, const struct opc_quote_answer *answer) {
-    printf("%" PRIu64 ": quote: ", line_number);
-    print_verdict(answer->number);
-    printf("; cancel the resting quote: %s\n", answer->cancel == 0 ? "no" : "yes");
+/* The library tallies orders alone; this does the same for a quote, without end. */
+static void tally_quote(struct opc_tally *tally, enum opc_outcome outcome) {
+    tally->seen++;
+    tally->refused += outcome == OPC_OUTCOME_REFUSED;
+    tally->accepted += outcome == OPC_OUTCOME_ACCEPTED;
+    tally->rejected += outcome == OPC_OUTCOME_REJECTED;
 }
 
-static void print_tally(const struct opc_tally *tally) {
-    printf("tally of orders: %" PRIu64 " seen, %" PRIu64 " refused, %" PRIu64 " accepted, %" PRIu64
-           " rejected\n",
-           tally->seen, tally->refused, tally->accepted, tally->rejected);
-}
-
-/* ---- what a line asks for ---- */
-
-/* What an order or a quote is checked against; `set` changes it. */
-struct terms {
-    struct opc_settings settings;
-    struct opc_market market;
-};
-
-struct desk {
-    struct terms terms;
-    struct opc_tally tally;
-    uint64_t line_number;
-};
-
-static const struct terms first_terms = {OPC_EXAMPLE_SETTINGS, OPC_EMPTY_MARKET};
-static const struct opc_tally fresh_tally = OPC_FRESH_TALLY;
-
-/* The legs' bytes, as the library takes them. */
-struct legs {
-    uint8_t symbols[LEGS_READ * OPC_SYMBOL_LENGTH];
-    uint8_t counts[LEGS_READ * OPC_COUNT_LENGTH];
-    size_t len;
-};
-
-static bool take_leg(struct line *line, struct legs *legs) {
-    int64_t count;
-    if (legs->len == LEGS_READ) {
-        return fault(line, next_field(line), "order", "has more than 100 legs");
-    }
-    if (!take_count(line, &count) ||
-        !take_series(line, legs->symbols + legs->len * OPC_SYMBOL_LENGTH)) {
-        return false;
-    }
-    opc_write_count(count, legs->counts + legs->len * OPC_COUNT_LENGTH);
-    legs->len++;
-    return true;
-}
-
-/* Legs up to the first word or the line's end: none, if that comes at once. */
-static bool take_legs(struct line *line, struct legs *legs) {
-    struct field next = next_field(line);
-    legs->len = 0;
-    if (next.len == 0 || (next.text[0] >= 'a' && next.text[0] <= 'z')) {
-        return true;
-    }
-    while (take_leg(line, legs)) {
-        next = next_field(line);
-        if (!is(next, ";")) {
-            return true;
-        }
-        pass(line, next);
-    }
-    return false;
-}
-
-static bool check_order(struct desk *desk, struct line *line) {
-    static const char *const words[] = {"market", "stop", "manual", "opening"};
-    struct opc_order order = {.kind = OPC_KIND_LIMIT};
-    uint64_t *const flags[] = {&order.kind, &order.stop, &order.manual, &order.opening};
-    struct legs legs;
-    if (!take_price(line, &order.price) || !take_legs(line, &legs) ||
-        !take_words(line, words, flags, COUNT(words))) {
-        return false;
-    }
-    order.symbols = legs.symbols;
-    order.symbols_len = legs.len * OPC_SYMBOL_LENGTH;
-    order.counts = legs.counts;
-    order.counts_len = legs.len * OPC_COUNT_LENGTH;
-    /* A full tally is printed, and the next one begins: no order goes unchecked for it. */
-    if (desk->tally.seen == OPC_MOST_TALLIED) {
-        print_tally(&desk->tally);
-        desk->tally = fresh_tally;
-    }
-    struct opc_answer answer =
-        opc_answer_order_tallied(&order, &desk->terms.settings, &desk->terms.market, &desk->tally);
-    print_order_answer(desk->line_number, &answer);
-    return true;
-}
-
-static bool check_quote(struct desk *desk, struct line *line) {
-    static const char *const words[] = {"resting"};
-    uint8_t symbol[OPC_SYMBOL_LENGTH];
-    struct opc_quote quote = {.symbol = symbol, .symbol_len = sizeof symbol};
-    uint64_t *const flags[] = {&quote.resting};
-    if (!take_series(line, symbol) || !take_dollars(line, "bid", &quote.bid) ||
-        !take_dollars(line, "offer", &quote.offer) ||
-        !take_words(line, words, flags, COUNT(words))) {
-        return false;
-    }
+static void answer_quote(struct desk *desk, const struct opc_quote *quote) {
     struct opc_quote_answer answer =
-        opc_answer_quote(&quote, &desk->terms.settings, &desk->terms.market);
-    print_quote_answer(desk->line_number, &answer);
-    return true;
+        opc_answer_quote(quote, &desk->terms.settings, &desk->terms.market);
+    tally_quote(&desk->quotes.tally, opc_outcome_of(answer.number));
+    note(desk, &desk->quotes, answer.number);
+    printf("%" PRIu64 ": quote: ", desk->line_number);
+    print_verdict(answer.number, &desk->terms);
+    print_quote_fault(quote, answer.number);
+    printf("; cancel the resting quote: %s\n", answer.cancel == 0 ? "no" : "yes");
 }
 
-#define SETTING(name)                                                                              \
-    { #name, offsetof(struct terms, settings.name) }
-#define MARKET(name)                                                                               \
-    { #name, offsetof(struct terms, market.name) }
+/* ---- settings and market ---- */
 
-/* Every field that `set` can name, and its place; each is an uint64_t. */
-static const struct {
-    const char *name;
-    size_t place;
-} settables[] = {
-    SETTING(check_20),
-    SETTING(check_21),
-    SETTING(check_22),
-    SETTING(check_23),
-    SETTING(check_24),
-    SETTING(check_25),
-    SETTING(check_26),
-    SETTING(tick_below_3000),
-    SETTING(tick_from_3000),
-    SETTING(net_increment),
-    SETTING(atd_below_1000),
-    SETTING(atd_to_2999),
-    SETTING(atd_to_9999),
-    SETTING(atd_from_10000),
-    SETTING(percentage),
-    SETTING(preset_minimum),
-    SETTING(preset_maximum),
-    SETTING(set_ticks),
-    SETTING(adjusted),
-    SETTING(european_index),
-    MARKET(phase),
-    MARKET(open_elsewhere),
-    MARKET(extended_hours),
-    MARKET(underlying),
-    MARKET(nbb),
-    MARKET(nbo),
-    MARKET(own_bid),
-    MARKET(own_offer),
-    MARKET(previous_close),
-};
+static void print_dollars(uint64_t mills) {
+    printf("%" PRIu64 ".%03" PRIu64, mills / 1000, mills % 1000);
+}
 
-_Static_assert(COUNT(settables) * sizeof(uint64_t) == sizeof(struct terms),
-               "every field of settings and market can be set");
+/* A value with its unit, as it was understood. */
+static void print_understood(enum unit unit, uint64_t value) {
+    static const char *const phases[] = {
+        [OPC_PHASE_PRE_OPENING] = "before the opening",
+        [OPC_PHASE_OPEN] = "open",
+        [OPC_PHASE_HALT] = "halt",
+    };
+    if (unit == UNIT_MONEY) {
+        print_dollars(value);
+        printf(" dollars (%" PRIu64 " mills)", value);
+        return;
+    }
+    printf("%" PRIu64, value);
+    if (unit == UNIT_TICKS) {
+        printf(" ticks");
+    } else if (unit == UNIT_HUNDREDTHS) {
+        printf(" hundredths of a percent");
+    } else {
+        printf(" (%s)", unit == UNIT_PHASE ? name_in(phases, COUNT(phases), value)
+                        : value == 0       ? "no"
+                                           : "yes");
+    }
+}
 
-/* Where a field of the settings or the market is kept; NULL where none has the name. */
-static char *place_of(struct field name, struct terms *terms) {
+/* Prints what the line set, and what of the terms the library now refuses. */
+static void answer_set(struct desk *desk, const struct request *request) {
+    const struct terms *terms = &request->terms;
+    /* Settings are refused before the market: so each is asked beside the first of the other. */
+    const struct terms halves[] = {{terms->settings, first_terms.market},
+                                   {first_terms.settings, terms->market}};
+    printf("%" PRIu64 ": set: ", desk->line_number);
+    for (size_t i = 0; i < request->set_len; i++) {
+        const struct settable *settable = request->set[i];
+        printf("%s%s ", i == 0 ? "" : ", ", settable->name);
+        print_understood(settable->unit, value_of(terms, settable));
+    }
+    for (size_t i = 0; i < COUNT(halves); i++) {
+        uint64_t number = number_in(&halves[i]);
+        if (opc_outcome_of(number) == OPC_OUTCOME_REFUSED) {
+            printf("; ");
+            print_verdict(number, terms);
+            desk->all_accepted = false;
+        }
+    }
+    printf("\n");
+}
+
+/* Prints the terms as `set` takes them. */
+static void answer_show(const struct desk *desk) {
     for (size_t i = 0; i < COUNT(settables); i++) {
-        if (is(name, settables[i].name)) {
-            return (char *)terms + settables[i].place;
+        const struct settable *settable = &settables[i];
+        uint64_t value = value_of(&desk->terms, settable);
+        if (i == 0 || i == OPC_SETTINGS_COUNT) {
+            printf("%s%" PRIu64 ": %s:", i == 0 ? "" : "\n", desk->line_number,
+                   i == 0 ? "settings" : "market");
+        }
+        printf(" %s=", settable->name);
+        if (settable->unit == UNIT_MONEY) {
+            print_dollars(value);
+        } else {
+            printf("%" PRIu64, value);
         }
     }
-    return NULL;
+    printf("\n");
 }
-
-static bool take_setting(struct line *line, struct terms *terms) {
-    struct field field;
-    uint64_t value;
-    if (!take(line, "setting", &field)) {
-        return false;
-    }
-    const char *equals = memchr(field.text, '=', field.len);
-    if (equals == NULL) {
-        return fault(line, field, "setting", "is not name=value");
-    }
-    struct field name = {field.text, (size_t)(equals - field.text)};
-    struct field digits = without(field, name.len + 1);
-    char *place = place_of(name, terms);
-    if (place == NULL) {
-        return fault(line, name, "name", "is no field of settings or market");
-    }
-    const char *trouble = read_whole(digits, &value);
-    if (trouble != NULL) {
-        return fault(line, digits, "value", trouble);
-    }
-    memcpy(place, &value, sizeof value);
-    return true;
-}
-
-/* The whole line is read before anything is set. */
-static bool change_terms(struct desk *desk, struct line *line) {
-    struct terms terms = desk->terms;
-    do {
-        if (!take_setting(line, &terms)) {
-            return false;
-        }
-    } while (next_field(line).len > 0);
-    desk->terms = terms;
-    return true;
-}
-
-static bool reset_terms(struct desk *desk, struct line *line) {
-    if (!is_at_end(line)) {
-        return false;
-    }
-    desk->terms = first_terms;
-    return true;
-}
-
-static const struct {
-    const char *word;
-    bool (*act)(struct desk *desk, struct line *line);
-} requests[] = {
-    {"order", check_order},
-    {"quote", check_quote},
-    {"set", change_terms},
-    {"reset", reset_terms},
-};
 
 /* ---- a file of lines ---- */
 
-/* Reads the next line without its end; false where none is left or the file cannot be read. */
-static bool next_line(FILE *file, struct line *line) {
-    int c = getc(file);
-    *line = (struct line){.len = 0};
-    if (c == EOF) {
-        return false;
+static void answer_request(struct desk *desk, const struct request *request) {
+    switch (request->kind) {
+    case REQUEST_ORDER:
+        answer_order(desk, &request->order);
+        break;
+    case REQUEST_QUOTE:
+        answer_quote(desk, &request->quote);
+        break;
+    case REQUEST_SET:
+        answer_set(desk, request);
+        break;
+    case REQUEST_RESET:
+        printf("%" PRIu64 ": reset: settings and market are those of the start\n",
+               desk->line_number);
+        break;
+    case REQUEST_SHOW:
+        answer_show(desk);
+        break;
+    case REQUEST_NOTHING:
+        break;
     }
-    for (; c != EOF && c != '\n'; c = getc(file)) {
-        if (line->len == LINE_LENGTH) {
-            line->is_longer = true;
-        } else {
-            line->text[line->len++] = (char)c;
-        }
-    }
-    if (!line->is_longer && c == '\n' && line->len > 0 && line->text[line->len - 1] == '\r') {
-        line->len--;
-    }
-    return !ferror(file);
+    desk->terms = request->terms;
 }
 
-static bool is_text(struct line *line) {
-    for (size_t i = 0; i < line->len; i++) {
-        unsigned char c = (unsigned char)line->text[i];
-        if ((c < ' ' && c != '\t') || c == 127) {
-            return fault_at(line, i, "line", "has a control character");
-        }
-    }
-    return !line->is_longer || fault_at(line, LINE_LENGTH, "line", "has more than 4096 bytes");
+static bool is_regular(FILE *file) {
+    struct stat about;
+    return fstat(fileno(file), &about) == 0 && S_ISREG(about.st_mode);
 }
 
-static bool follow(struct desk *desk, struct line *line) {
-    if (!is_text(line)) {
-        return false;
-    }
-    struct field word = next_field(line);
-    if (word.len == 0) {
-        return true;
-    }
-    pass(line, word);
-    for (size_t i = 0; i < COUNT(requests); i++) {
-        if (is(word, requests[i].word)) {
-            return requests[i].act(desk, line);
-        }
-    }
-    return fault(line, word, "line", "begins with none of order, quote, set, reset");
-}
-
-/* Follows every line of the file, and gives the exit status. */
-static int follow_file(FILE *file, const char *name) {
-    struct desk desk = {first_terms, fresh_tally, 0};
+/* Answers every line of the file, and gives the exit status. */
+static int answer_file(FILE *file, const char *name, bool is_strict) {
+    struct desk desk = {.terms = first_terms, .all_accepted = true};
     struct line line;
+    struct request request;
     int status = EXIT_READ;
+    /* Whoever writes into a pipe or a terminal may wait for an answer to send the next line. */
+    bool is_awaited = !is_regular(file);
     while (next_line(file, &line)) {
         desk.line_number++;
-        if (!follow(&desk, &line)) {
+        if (read_request(&line, &desk.terms, &request)) {
+            answer_request(&desk, &request);
+        } else {
             /* So that answers and messages keep their sequence where they share a file. */
             fflush(stdout);
             fprintf(stderr, "%s:%" PRIu64 ":%zu: %s %s\n", name, desk.line_number,
                     line.fault_at + 1, line.field, line.trouble);
             status = EXIT_UNREAD;
         }
+        if (is_awaited) {
+            fflush(stdout);
+        }
     }
     if (ferror(file)) {
         fprintf(stderr, "desk: %s: %s\n", name, strerror(errno));
         return EXIT_TROUBLE;
     }
-    if (desk.tally.seen > 0) {
-        print_tally(&desk.tally);
-    }
-    return status;
+    print_session("orders", &desk.orders);
+    print_session("quotes", &desk.quotes);
+    return status == EXIT_READ && is_strict && !desk.all_accepted ? EXIT_NOT_ACCEPTED : status;
 }
 
-static int print_form(void) {
-    for (size_t i = 0; i < COUNT(form); i++) {
-        puts(form[i]);
-    }
-    return EXIT_READ;
-}
-
-static int follow_named(const char *name) {
+static int answer_named(const char *name, bool is_strict) {
     FILE *file = fopen(name, "r");
     if (file == NULL) {
         fprintf(stderr, "desk: %s: %s\n", name, strerror(errno));
         return EXIT_TROUBLE;
     }
-    int status = follow_file(file, name);
+    int status = answer_file(file, name, is_strict);
     fclose(file);
     return status;
 }
 
+static int say_usage(void) {
+    fprintf(stderr, "usage: host/desk [--strict] [--] [FILE]\n"
+                    "       host/desk --help\n");
+    return EXIT_TROUBLE;
+}
+
 int main(int argc, char **argv) {
-    int status;
-    if (argc == 2 && strcmp(argv[1], "--help") == 0) {
-        status = print_form();
-    } else if (argc > 2 || (argc == 2 && argv[1][0] == '-')) {
-        fprintf(stderr, "%s\n%s\n", form[0], form[1]);
-        status = EXIT_TROUBLE;
-    } else {
-        status = argc == 2 ? follow_named(argv[1]) : follow_file(stdin, "stdin");
+    bool is_strict = false;
+    int i = 1;
+    for (; i < argc && argv[i][0] == '-'; i++) {
+        if (strcmp(argv[i], "--") == 0) {
+            i++;
+            break;
+        }
+        if (strcmp(argv[i], "--strict") != 0) {
+            return say_usage();
+        }
+        is_strict = true;
     }
+    if (argc - i > 1) {
+        return say_usage();
+    }
+    int status =
+        i < argc ? answer_named(argv[i], is_strict) : answer_file(stdin, "stdin", is_strict);
     if (fflush(stdout) != 0 || ferror(stdout)) {
         fprintf(stderr, "desk: standard output: %s\n", strerror(errno));
         return EXIT_TROUBLE;

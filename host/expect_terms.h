@@ -1,60 +1,31 @@
 /*
- * The settings and the market that an order or a quote under test is checked against: each field
- * tried at its limits and beyond them, then other lengths, and all of them printed for the message
- * of a failure.
+ * The settings and the market that an order or a quote under test is checked against: other values
+ * for a yes, other lengths, and all of them printed for the message of a failure.
  */
 #ifndef EXPECT_TERMS_H
 #define EXPECT_TERMS_H
 
 #include "made_orders.h"
 
+/* Any value but 0 is yes. */
+static inline void change_yes(uint64_t *flag) {
+    if (*flag != 0) {
+        *flag = between(1, UINT64_MAX - 1);
+    }
+}
+
+static inline void change_flags(struct opc_settings *s, struct opc_market *m) {
+    uint64_t *const flags[] = {&s->check_20,       &s->check_21,      &s->check_22,
+                               &s->check_23,       &s->check_24,      &s->check_25,
+                               &s->check_26,       &s->adjusted,      &s->european_index,
+                               &m->open_elsewhere, &m->extended_hours};
+    for (size_t i = 0; i < COUNT(flags); i++) {
+        change_yes(flags[i]);
+    }
+}
+
 /* Expects a check to give this number for the order or the quote `made`, as it is at the time. */
 typedef void expect_given(void *made, uint64_t number, const char *what);
-
-/* Accepted with the field at its limits, given the number with it beyond them; it is put back. */
-static inline void expect_within(expect_given *expect_made, void *made, struct limited limited,
-                                 uint64_t number) {
-    uint64_t kept = *limited.field;
-    *limited.field = limited.least;
-    expect_made(made, OPC_ACCEPTED, "the least value is refused");
-    *limited.field = limited.most;
-    expect_made(made, OPC_ACCEPTED, "the most value is refused");
-    *limited.field = limited.most + 1;
-    expect_made(made, number, "a value above its limit");
-    *limited.field = UINT64_MAX;
-    expect_made(made, number, "a value above its limit");
-    if (limited.least > 0) {
-        *limited.field = limited.least - 1;
-        expect_made(made, number, "a value below its limit");
-    }
-    *limited.field = kept;
-}
-
-/* From the example settings on; the presets are left at 700 and 1000000. */
-static inline void expect_setting_limits(expect_given *expect_made, void *made,
-                                         struct opc_settings *s) {
-    const struct limited fields[] = LIMITED_SETTINGS(s);
-    for (size_t i = 0; i < COUNT(fields); i++) {
-        expect_within(expect_made, made, fields[i], OPC_BAD_SETTING);
-    }
-    const struct limited minimum = {&s->preset_minimum, 0, 1000000};
-    s->preset_maximum = 1000000;
-    expect_within(expect_made, made, minimum, OPC_BAD_SETTING);
-    const struct limited maximum = {&s->preset_maximum, 700, 1000000};
-    s->preset_minimum = 700;
-    expect_within(expect_made, made, maximum, OPC_BAD_SETTING);
-}
-
-static inline void expect_market_limits(expect_given *expect_made, void *made,
-                                        struct opc_market *m) {
-    uint64_t *const values[] = {MARKET_VALUES(m)};
-    const struct limited phase = {&m->phase, 0, 2};
-    expect_within(expect_made, made, phase, OPC_BAD_MARKET);
-    for (size_t i = 0; i < COUNT(values); i++) {
-        const struct limited value = {values[i], 0, 1000000000};
-        expect_within(expect_made, made, value, OPC_BAD_MARKET);
-    }
-}
 
 /* Slices of other lengths: refused as a value outside its limits is, the settings first. */
 static inline void expect_lengths(expect_given *expect_made, void *made, size_t *settings_len,

@@ -9,7 +9,6 @@
 #include <stdio.h>
 #include <string.h>
 
-#define ROOT_LENGTH 6
 #define LARGEST_BUFFER 64
 
 struct read_case {
@@ -43,25 +42,17 @@ static const struct write_case write_cases[] = {
     {"smallest strike", "A", 2099, 12, 31, 'P', 1, OPC_SYMBOL_LENGTH},
     {"20-byte buffer", "SPX", 2014, 11, 22, 'P', 19500, OPC_SYMBOL_LENGTH - 1},
     {"strike 100000000", "SPX", 2014, 11, 22, 'P', 100000000, OPC_SYMBOL_LENGTH},
+    {"seven-letter root", "ABCDEFG", 2014, 11, 22, 'P', 19500, OPC_SYMBOL_LENGTH},
 };
 
-static uint64_t root_from_text(const char *text) {
-    size_t length = strlen(text);
-    uint64_t root = 0;
-    for (size_t i = 0; i < ROOT_LENGTH; i++) {
-        root = root << 8 | (uint8_t)(i < length ? text[i] : ' ');
-    }
-    return root;
-}
-
 static void print_root(uint64_t root) {
-    for (int shift = 8 * (ROOT_LENGTH - 1); shift >= 0; shift -= 8) {
+    for (int shift = 8 * (OPC_ROOT_LENGTH - 1); shift >= 0; shift -= 8) {
         putchar((int)(root >> shift & 0xff));
     }
 }
 
+/* All but the root. */
 static void print_parts(const struct opc_symbol_parts *parts) {
-    print_root(parts->root);
     printf("  %04" PRIu64 "-%02" PRIu64 "-%02" PRIu64, parts->year, parts->month, parts->day);
     printf("  %-4s", parts->option_type == 'C' ? "call" : "put");
     printf("  %6" PRIu64 ".%03" PRIu64, parts->strike / 1000, parts->strike % 1000);
@@ -72,6 +63,7 @@ static void show_read(const struct read_case *c) {
     uint64_t number = opc_read_symbol_parts((const uint8_t *)c->symbol, strlen(c->symbol), &parts);
     printf("%-21s  %-21s  %" PRIu64 " %-14s  ", c->about, c->symbol, number, number_name(number));
     if (number == OPC_ACCEPTED) {
+        print_root(parts.root);
         print_parts(&parts);
     } else {
         printf("-");
@@ -81,7 +73,7 @@ static void show_read(const struct read_case *c) {
 
 static void show_write(const struct write_case *c) {
     struct opc_symbol_parts parts = {
-        .root = root_from_text(c->root),
+        .root = opc_root(c->root),
         .year = c->year,
         .month = c->month,
         .day = c->day,
@@ -91,7 +83,7 @@ static void show_write(const struct write_case *c) {
     uint8_t out[LARGEST_BUFFER];
     uint64_t number;
     uint64_t length = opc_write_symbol_parts(&parts, out, c->buffer, &number);
-    printf("%-21s  ", c->about);
+    printf("%-21s  %-7s", c->about, c->root);
     print_parts(&parts);
     printf("  %6zu  %" PRIu64 " %-14s  ", c->buffer, number, number_name(number));
     if (length > 0) {
@@ -109,7 +101,7 @@ int main(void) {
         show_read(&read_cases[i]);
     }
     printf("\nWriting\n");
-    printf("%-21s  %-6s  %-10s  %-4s  %10s  %6s  %-16s  %s\n", "case", "root", "expiry", "type",
+    printf("%-21s  %-7s  %-10s  %-4s  %10s  %6s  %-16s  %s\n", "case", "root", "expiry", "type",
            "strike", "buffer", "number", "bytes out");
     for (size_t i = 0; i < COUNT(write_cases); i++) {
         show_write(&write_cases[i]);

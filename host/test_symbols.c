@@ -120,12 +120,18 @@ static uint64_t write_both(const struct opc_symbol_parts *p, size_t out_len,
     return number;
 }
 
-static uint64_t root_number(const char *six_bytes) {
-    uint64_t root = 0;
-    for (size_t i = 0; i < 6; i++) {
-        root = root << 8 | (uint8_t)six_bytes[i];
+static void test_roots(void) {
+    static const struct {
+        const char *letters;
+        uint64_t root;
+    } cases[] = {
+        {"", 0x202020202020},       {"A", 0x412020202020}, {"SPX", 0x535058202020},
+        {"ABCDEF", 0x414243444546}, {"ABCDEFG", 0},        {"ABCDEFGHIJKLMNOP", 0},
+        {"\xff", 0xff2020202020},
+    };
+    for (size_t i = 0; i < COUNT(cases); i++) {
+        expect(opc_root(cases[i].letters) == cases[i].root, "another root of letters");
     }
-    return root;
 }
 
 static void test_accepted(void) {
@@ -187,12 +193,12 @@ static void test_refused(void) {
 }
 
 static void test_refused_parts(void) {
-    const uint64_t spx = root_number("SPX   ");
+    const uint64_t spx = opc_root("SPX");
     const struct opc_symbol_parts cases[] = {
         {0, 2014, 11, 22, 'P', 19500},
         {spx + ((uint64_t)1 << 48), 2014, 11, 22, 'P', 19500},
-        {root_number("S PX  "), 2014, 11, 22, 'P', 19500},
-        {root_number("SPX\0\0\0"), 2014, 11, 22, 'P', 19500},
+        {opc_root("S PX"), 2014, 11, 22, 'P', 19500},
+        {0x535058000000, 2014, 11, 22, 'P', 19500},
         {spx, 1999, 11, 22, 'P', 19500},
         {spx, 2100, 11, 22, 'P', 19500},
         {spx, 14, 11, 22, 'P', 19500},
@@ -217,7 +223,7 @@ static void test_refused_parts(void) {
 }
 
 static void test_buffer_lengths(void) {
-    const struct opc_symbol_parts parts = {root_number("LAMR  "), 2015, 1, 17, 'C', 52500};
+    const struct opc_symbol_parts parts = {opc_root("LAMR"), 2015, 1, 17, 'C', 52500};
     for (size_t out_len = 0; out_len <= LARGEST_BUFFER; out_len++) {
         uint8_t written[OPC_SYMBOL_LENGTH];
         uint64_t number = write_both(&parts, out_len, written);
@@ -230,7 +236,7 @@ static void test_buffer_lengths(void) {
 }
 
 static void test_null(void) {
-    const struct opc_symbol_parts parts = {root_number("LAMR  "), 2015, 1, 17, 'C', 52500};
+    const struct opc_symbol_parts parts = {opc_root("LAMR"), 2015, 1, 17, 'C', 52500};
     struct opc_symbol_parts read;
     uint64_t number = next_random();
     expect(read_both(NULL, 0, &read) == OPC_NOT_21_BYTES, "reading NULL with length 0");
@@ -241,7 +247,7 @@ static void test_null(void) {
 }
 
 static struct opc_symbol_parts random_parts(void) {
-    char root[] = "      ";
+    char root[OPC_ROOT_LENGTH + 1] = "";
     size_t length = 1 + below(6);
     root[0] = letters_and_digits[below(LETTERS)];
     for (size_t i = 1; i < length; i++) {
@@ -249,7 +255,7 @@ static struct opc_symbol_parts random_parts(void) {
     }
     /* One statement each: C leaves the sequence of calls within one initializer open. */
     struct opc_symbol_parts parts;
-    parts.root = root_number(root);
+    parts.root = opc_root(root);
     parts.year = 2000 + below(100);
     parts.month = 1 + below(12);
     parts.day = 1 + below(28); /* a day that every month has, so that no calendar is needed here */
@@ -329,6 +335,7 @@ static void test_random_damaged_parts(void) {
 }
 
 int main(void) {
+    test_roots();
     test_accepted();
     test_refused();
     test_refused_parts();

@@ -26,17 +26,21 @@
 extern "C" {
 #endif
 
+/* Of this face: one more with each change of an entry, a struct, a number or a limit. */
+#define OPC_VERSION 1
+
 /* What a number says of an order, a quote or a symbol. */
 enum opc_outcome {
     OPC_OUTCOME_ACCEPTED = 0,
-    OPC_OUTCOME_REFUSED = 1, /* malformed; all other numbers but a tally's are 0 */
+    OPC_OUTCOME_REFUSED = 1, /* not judged; all other numbers but a tally's are 0 */
     OPC_OUTCOME_REJECTED = 2 /* by a check of the exchange */
 };
 
 /*
- * The numbers that an entry can give, a row each: name, number, outcome, author (who has to change
- * something), then a word for tables and the meaning. All that goes by the number is made from it:
- * enum opc_number and opc_outcome_of here, and whatever a host makes with a ROW of its own.
+ * The numbers that an entry can give, a row each: name, number, outcome, author (whose fault it is,
+ * and who has to change something), then a word for tables and the meaning. All that goes by the
+ * number is made from it: enum opc_number and opc_outcome_of here, and whatever a host makes with a
+ * ROW of its own.
  */
 #define OPC_NUMBERS(ROW)                                                                           \
     ROW(OPC_ACCEPTED, 0, ACCEPTED, "nobody", "accepted", "neither refused nor rejected")           \
@@ -61,17 +65,17 @@ enum opc_outcome {
         "bid or offer is outside its limits, or the bid is not below")                             \
     ROW(OPC_BAD_TALLY, 12, REFUSED, "host", "tally", "the tally is full, or does not add up")      \
     ROW(OPC_CHECK_PUT, 20, REJECTED, "trading firm", "put check",                                  \
-        "the put check: too high for a put")                                                       \
+        "the put check: a put is bought or bid for at its strike or above")                        \
     ROW(OPC_CHECK_CALL, 21, REJECTED, "trading firm", "call check",                                \
-        "the call check: too high for a call")                                                     \
+        "the call check: a call is bought or bid for at the underlying's value or above")          \
     ROW(OPC_CHECK_BUY_BUY, 22, REJECTED, "trading firm", "buy-buy/sell-sell",                      \
-        "the buy-buy/sell-sell check: too low for so many contracts")                              \
+        "the buy-buy/sell-sell check: less than the net increment for each contract")              \
     ROW(OPC_CHECK_DEBIT_CREDIT, 23, REJECTED, "trading firm", "debit/credit",                      \
         "the debit/credit check: the price's sign is not the class's")                             \
     ROW(OPC_CHECK_MAXIMUM_VALUE, 24, REJECTED, "trading firm", "maximum value",                    \
-        "the maximum value check: the price is above what the shape can be worth")                 \
+        "the maximum value check: more than the maximum value and the allowance together")         \
     ROW(OPC_CHECK_TICK_DISTANCE, 25, REJECTED, "trading firm", "tick distance",                    \
-        "the tick distance check: the price is too far from its reference")                        \
+        "the tick distance check: the price is further from its reference than allowed")           \
     ROW(OPC_CHECK_QUOTE_INVERSION, 26, REJECTED, "trading firm", "quote inversion",                \
         "the quote inversion check: the bid or the offer inverts the market")
 
@@ -110,6 +114,27 @@ struct opc_symbol_parts {
     uint64_t option_type; /* the byte 'C' or 'P' */
     uint64_t strike;      /* in mills, 1 to 99999999 */
 };
+
+#define OPC_ROOT_LENGTH 6
+
+/*
+ * The number of a root, such as "XYZ": its letters, and spaces up to six. More than six letters
+ * give 0, which the writer refuses with OPC_BAD_SYMBOL, as it does every root outside the layout.
+ */
+static inline uint64_t opc_root(const char *letters) {
+    uint64_t root = 0;
+    size_t len = 0;
+    for (; letters[len] != '\0'; len++) {
+        if (len == OPC_ROOT_LENGTH) {
+            return 0;
+        }
+        root = root << 8 | (uint8_t)letters[len];
+    }
+    for (; len < OPC_ROOT_LENGTH; len++) {
+        root = root << 8 | ' ';
+    }
+    return root;
+}
 
 /*
  * Reads a symbol.
@@ -290,7 +315,7 @@ struct opc_answer {
  * those of struct opc_order, opc_settings and opc_market, in the same sequence.
  *
  * Returns the first of these that applies:
- *   the order is refused, by the doing of the host,
+ *   the order is refused, by a fault of the host,
  *     OPC_NOT_21_BYTES         counts_len is no multiple of 8, or symbols_len is not 21 for each 8;
  *   of the trading firm,
  *     OPC_BAD_LEG_COUNT        no leg, or more than 16, whatever they hold;
@@ -432,7 +457,7 @@ struct opc_quote_answer {
  * those of struct opc_quote, opc_settings and opc_market, in the same sequence.
  *
  * Returns the first of these that applies:
- *   the quote is refused, by the doing of the host,
+ *   the quote is refused, by a fault of the host,
  *     OPC_NOT_21_BYTES           symbol_len is not 21;
  *   of the trading firm,
  *     OPC_BAD_SYMBOL             the symbol is outside the layout;

@@ -62,16 +62,34 @@ impl Arrival {
         }
     }
 
-    /// The legs, whole ones only, as text for a reader.
-    pub fn legs_as_text(&self) -> String {
+    /// The same order with other legs.
+    pub fn with_legs(&self, legs: &[RawLeg]) -> Self {
+        let Arrival {
+            symbols, counts, ..
+        } = Arrival::limit(legs, 0);
+        Arrival {
+            symbols,
+            counts,
+            ..self.clone()
+        }
+    }
+
+    /// The legs, whole ones only.
+    pub fn legs(&self) -> Vec<RawLeg> {
         let counts = self.counts.chunks_exact(8);
         let counts = counts.map(|bytes| i64::from_le_bytes(bytes.try_into().expect("8 bytes")));
         let symbols = self.symbols.chunks_exact(21);
-        let legs = symbols.zip(counts);
-        let legs: Vec<String> = legs
-            .map(|(symbol, count)| format!("{count} of \"{}\"", symbol.escape_ascii()))
-            .collect();
-        legs.join(", ")
+        let symbols = symbols.map(|bytes| bytes.try_into().expect("21 bytes"));
+        symbols.zip(counts).collect()
+    }
+
+    /// The legs as text for a reader.
+    pub fn legs_as_text(&self) -> String {
+        let legs = self.legs();
+        let legs = legs
+            .iter()
+            .map(|(symbol, count)| format!("{count} of \"{}\"", symbol.escape_ascii()));
+        legs.collect::<Vec<_>>().join(", ")
     }
 }
 

@@ -136,7 +136,7 @@ impl Seen {
             near: turned(near),
             far: turned(far),
             own_far: turned(own_far),
-            close: turned(market[CLOSE]),
+            close: turned(market[PREVIOUS_CLOSE]),
         }
     }
 

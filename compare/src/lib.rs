@@ -4,15 +4,15 @@
 //! `unit` is the library. `numbers` has every number with its kind, `slices` the names of settings
 //! and market. The second implementation is `osi` for symbols, `order`, with `pairing`, `shape`,
 //! `class` and `checks` below it, for orders, `tally` for tallied ones and `quote_check` for quotes.
-//! `examples` are those of the papers, `generate` and `limits` make cases up, and `run` puts them to
-//! both and counts.
+//! `cases` reads those of the repository's files, `generate` and `limits` make others up, and `run`
+//! puts them to both and counts.
 #![deny(unsafe_code)]
 
 pub mod arrival;
 pub mod case;
+pub mod cases;
 pub mod checks;
 pub mod class;
-pub mod examples;
 pub mod generate;
 pub mod legs;
 pub mod limits;

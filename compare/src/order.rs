@@ -39,7 +39,7 @@ fn check_paired(arrival: &Arrival, pair: fn(&[Leg], bool) -> Paired) -> Answer {
     let order_legs = legs.valid();
     let units = units(&order_legs);
     let shape = Shape::of(&units);
-    let paired = pair(&order_legs, arrival.settings[EUROPEAN] != 0);
+    let paired = pair(&order_legs, arrival.settings[EUROPEAN_INDEX] != 0);
     let order = Order {
         class: class::of(&order_legs, &shape, &paired),
         units,

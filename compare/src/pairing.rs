@@ -1,7 +1,7 @@
 //! The pairing of legs, by two methods that share nothing but the grouping.
 //!
 //! `by_contracts` is document 01 to the letter: single contracts are matched one at a time, from
-//! an explicit list of the open ones, and a run of matches of the same two legs is one pairing.
+//! explicit lists of the open ones, and a run of matches of the same two legs is one pairing.
 //!
 //! `by_levels` is the quick one, and keeps no open contracts at all. Think of a walk as a position
 //! on a line, bought contracts a step up, sold ones a step down. A contract matches the one that
@@ -65,20 +65,23 @@ fn groups<K: Ord>(legs: &[Leg], key: impl Fn(&Leg) -> K) -> Vec<Vec<usize>> {
 }
 
 fn walk_by_contracts(group: &[usize], paired: &mut Paired) {
-    let mut open: Vec<(usize, i128)> = Vec::new(); // the leg and the side of each open contract
+    let mut open = [Vec::new(), Vec::new()]; // the leg of each open contract: bought, sold
     let mut matches: Vec<(usize, usize)> = Vec::new();
     for &reached in group {
-        let side = paired.left[reached].signum();
+        let side = usize::from(paired.left[reached] < 0);
         for _ in 0..paired.left[reached].abs() {
-            match open.iter().rposition(|&(_, other)| other == -side) {
-                Some(latest) => matches.push((open.remove(latest).0, reached)),
-                None => open.push((reached, side)),
+            match open[1 - side].pop() {
+                Some(latest) => matches.push((latest, reached)),
+                None => open[side].push(reached),
             }
         }
     }
     for &place in group {
-        let still = open.iter().filter(|&&(leg, _)| leg == place);
-        paired.left[place] = still.map(|(_, side)| side).sum();
+        let [bought, sold] = [0, 1].map(|side: usize| {
+            let still = open[side].iter().filter(|&&leg| leg == place);
+            still.count() as i128
+        });
+        paired.left[place] = bought - sold;
     }
     for pair in &matches {
         *paired.pairs.entry(*pair).or_default() += 1;

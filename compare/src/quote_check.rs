@@ -103,10 +103,7 @@ fn first_rejected(settings: &[u64], seen: &Seen) -> Option<i128> {
 #[cfg(test)]
 mod tests {
     use super::*;
-    use crate::{
-        random::Random,
-        series::{call, put},
-    };
+    use crate::random::Random;
 
     /// Document 01's words on 26, for the bid and then for the offer.
     fn to_the_letter(quote: &Quote) -> bool {
@@ -164,23 +161,5 @@ mod tests {
             rejected += u64::from(expected);
         }
         assert!((100_000..400_000).contains(&rejected), "{rejected}");
-    }
-
-    #[test]
-    fn lowest_number_first() {
-        let mut quote = Quote::new(&put(160_318, 18_000).symbol(), 18_000, 18_001);
-        quote.market[NBO] = 18_000;
-        quote.resting = 7;
-        let answer = |number, cancel| QuoteAnswer { number, cancel };
-        assert_eq!(check(&quote), answer(20, 1));
-        quote.settings[CHECK_20] = 0;
-        assert_eq!(check(&quote), answer(26, 1));
-        quote.market[UNDERLYING] = 18_000;
-        quote.symbol = call(160_318, 18_000).symbol().to_vec();
-        assert_eq!(check(&quote), answer(21, 1));
-        quote.offer = 18_000;
-        assert_eq!(check(&quote), answer(11, 0));
-        quote.symbol.pop();
-        assert_eq!(check(&quote), answer(1, 0));
     }
 }

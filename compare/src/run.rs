@@ -135,10 +135,15 @@ to run it again, in compare/:
     pub fn require(&self, numbers: &[u64], least: u64) {
         let seen = &self.seen;
         self.given_each("number", &seen.numbers, numbers.iter().copied(), least);
-        self.given_each("class", &seen.classes, 0..=2, least);
-        self.given_each("shape", &seen.shapes, 0..=4, least);
+        self.require_classes_and_shapes(least);
         self.given_each("pairings", &seen.pairings, 0..=15, least / 10);
         self.lent_each(least / 10);
+    }
+
+    /// Fails unless every class and every shape were given at least so often.
+    pub fn require_classes_and_shapes(&self, least: u64) {
+        self.given_each("class", &self.seen.classes, 0..=2, least);
+        self.given_each("shape", &self.seen.shapes, 0..=4, least);
     }
 
     /// The same for quotes: each number that they can get, and both values of the cancel flag.

@@ -1,4 +1,4 @@
-//! Series to make orders of, as they are written in examples and made up at random.
+//! Series to make orders of, as they are written in tests and made up at random.
 
 use crate::arrival::RawLeg;
 

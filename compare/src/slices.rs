@@ -1,5 +1,5 @@
 //! Settings and market as they are lent: slices of numbers, which may be of any length. In a slice
-//! of the right length every place has a name; the names stand in the sequence of the C face.
+//! of the right length every place has a name: those of the C structs, in the same sequence.
 
 /// Names the places of a slice from the first on, and lists the names.
 macro_rules! places {
@@ -17,14 +17,14 @@ pub mod setting {
         CHECK_20 CHECK_21 CHECK_22 CHECK_23 CHECK_24 CHECK_25 CHECK_26
         TICK_BELOW_3000 TICK_FROM_3000 NET_INCREMENT
         ATD_BELOW_1000 ATD_TO_2999 ATD_TO_9999 ATD_FROM_10000
-        PERCENTAGE PRESET_MINIMUM PRESET_MAXIMUM SET_TICKS ADJUSTED EUROPEAN
+        PERCENTAGE PRESET_MINIMUM PRESET_MAXIMUM SET_TICKS ADJUSTED EUROPEAN_INDEX
     }
 }
 
 pub mod market {
     places! {
         PHASE OPEN_ELSEWHERE EXTENDED_HOURS
-        UNDERLYING NBB NBO OWN_BID OWN_OFFER CLOSE
+        UNDERLYING NBB NBO OWN_BID OWN_OFFER PREVIOUS_CLOSE
     }
 
     pub const PRE_OPENING: u64 = 0;

@@ -15,10 +15,8 @@ use compare::{
 
 const RANDOM_LISTS: u64 = 1_000_000;
 const LEAST_OF_EACH: u64 = 1_000;
-/// Contract by contract, the work grows with the square of the contracts: always with few, now and
-/// then with more.
-const FEW_CONTRACTS: i64 = 60;
-const MORE_CONTRACTS: i64 = 1_500;
+/// Contract by contract, the work grows with the contracts: not more than so many.
+const FEW_CONTRACTS: i64 = 1_500;
 
 #[test]
 fn random_lists() {
@@ -31,8 +29,7 @@ fn random_lists() {
         let arrival = random_arrival(&mut run.random, &legs);
         let answer = run.compare(&arrival);
         let contracts: i64 = legs.iter().map(|leg| leg.1.abs()).sum();
-        let now = contracts <= MORE_CONTRACTS && run.random.index(100) == 0;
-        if contracts <= FEW_CONTRACTS || now {
+        if contracts <= FEW_CONTRACTS {
             assert_eq!(answer, order::check_by_contracts(&arrival), "{arrival}");
             by_contracts += 1;
         }
@@ -56,7 +53,7 @@ fn random_legs(random: &mut Random) -> Vec<RawLeg> {
 fn random_arrival(random: &mut Random, legs: &[RawLeg]) -> Arrival {
     let price = *random.pick(&[-20_000, -1_000, -1, 0, 1, 1_000, 20_000]);
     let mut arrival = Arrival::limit(legs, price);
-    arrival.settings[EUROPEAN] = u64::from(random.index(3) == 0);
+    arrival.settings[EUROPEAN_INDEX] = u64::from(random.index(3) == 0);
     if random.index(2) == 0 {
         arrival.settings[CHECK_20..=CHECK_26].fill(0);
     }
@@ -89,7 +86,7 @@ fn alphabet(counts: &[i64]) -> Vec<RawLeg> {
 fn compare(run: &mut Run, legs: &[RawLeg]) {
     let mut arrival = Arrival::limit(legs, -1_000);
     for european in [0, 1] {
-        arrival.settings[EUROPEAN] = european;
+        arrival.settings[EUROPEAN_INDEX] = european;
         let expected: Answer = order::check_by_contracts(&arrival);
         run.expect(&arrival, expected, "contract by contract");
     }

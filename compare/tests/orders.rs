@@ -34,19 +34,12 @@ fn both_give_the_same_answers() {
     assert!(rearranged >= COMPARISONS / 20);
 }
 
-/// The same legs, 21 bytes with their 8, in another sequence, where there are two or more.
+/// The same legs in another sequence, where the slices are whole legs, two or more.
 fn in_another_sequence(random: &mut Random, arrival: &Arrival) -> Option<Arrival> {
-    let (symbols, counts) = (&arrival.symbols, &arrival.counts);
-    let whole = symbols.len() % 21 == 0 && counts.len() % 8 == 0;
-    if !whole || symbols.len() / 21 != counts.len() / 8 || counts.len() < 16 {
+    let mut legs = arrival.legs();
+    if legs.len() < 2 || arrival.with_legs(&legs) != *arrival {
         return None;
     }
-    let mut legs: Vec<(&[u8], &[u8])> = symbols.chunks(21).zip(counts.chunks(8)).collect();
     shuffle(random, &mut legs);
-    let (symbols, counts): (Vec<&[u8]>, Vec<&[u8]>) = legs.into_iter().unzip();
-    Some(Arrival {
-        symbols: symbols.concat(),
-        counts: counts.concat(),
-        ..arrival.clone()
-    })
+    Some(arrival.with_legs(&legs))
 }

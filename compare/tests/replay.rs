@@ -5,7 +5,7 @@
 use compare::{
     arrival::Arrival,
     case::Case,
-    examples, generate, order,
+    cases, generate, order,
     quote::{Quote, QUOTE},
     random::Random,
     run::{Run, CASE_VARIABLE},
@@ -42,8 +42,8 @@ fn again<C: Case + FromStr<Err = String>>(line: &str) {
 }
 
 fn lines_read_back() {
-    for example in examples::of_document_01() {
-        reads_back(&example.arrival);
+    for order in cases::all().orders {
+        reads_back(&order.case);
     }
     reads_back(&Arrival {
         price: i64::MIN,

@@ -18,7 +18,7 @@ fn flag(random: &mut Random, one_in: usize) -> u64 {
 /// Settings within their limits.
 pub fn settings(random: &mut Random) -> Vec<u64> {
     let mut settings = EXAMPLE_SETTINGS.to_vec();
-    settings[EUROPEAN] = flag(random, 4);
+    settings[EUROPEAN_INDEX] = flag(random, 4);
     if random.index(4) == 0 {
         return settings;
     }
@@ -73,7 +73,7 @@ pub fn market(random: &mut Random, draft: &Draft) -> Vec<u64> {
     market[OPEN_ELSEWHERE] = flag(random, 2);
     market[EXTENDED_HOURS] = flag(random, 8);
     market[UNDERLYING] = underlying;
-    market[NBB..=CLOSE].fill_with(|| market_price(random, level));
+    market[NBB..=PREVIOUS_CLOSE].fill_with(|| market_price(random, level));
     market
 }
 
@@ -115,7 +115,7 @@ fn limits(draft: &Draft, settings: &[u64], market: &[u64]) -> Vec<i128> {
     if let [(series, _)] = draft[..] {
         limits.push(series.strike.into());
         limits.push(market[UNDERLYING].into());
-        for reference in market[NBB..=CLOSE].iter().copied().map(i128::from) {
+        for reference in market[NBB..=PREVIOUS_CLOSE].iter().copied().map(i128::from) {
             let distance = checks::distance(settings, reference);
             limits.extend([reference + distance, reference - distance, reference]);
         }

@@ -31,7 +31,7 @@ fn every_small_quote(run: &mut Run, market: &[u64]) {
     let mut quotes = [of_call(0, 0), of_put(strike, 0, 0)];
     for quote in &mut quotes {
         quote.market = market.to_vec();
-        quote.settings[SET_TICKS] = market[CLOSE] % 3;
+        quote.settings[SET_TICKS] = market[PREVIOUS_CLOSE] % 3;
         quote.settings[TICK_BELOW_3000..=TICK_FROM_3000].fill(1);
         for bid in 1..=5 {
             for offer in bid + 1..=6 {

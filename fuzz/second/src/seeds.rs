@@ -1,9 +1,9 @@
-//! Inputs to begin with: in the harness's raw form the papers' examples, and cases made up as for
-//! the comparison; in its shaped form any bytes.
+//! Inputs to begin with: in the harness's raw form the cases of `cases/*.desk`, and some made up as
+//! for the comparison; in its shaped form any bytes.
 
 use compare::{
     arrival::Arrival,
-    examples,
+    cases,
     generate::{self, legs_of, list_of},
     osi,
     quote::Quote,
@@ -45,15 +45,13 @@ pub unsafe extern "C" fn second_write_seeds(folder: *const std::ffi::c_char) {
 fn all() -> Vec<Vec<u8>> {
     let mut random = Random::new(seed());
     let mut seeds = Vec::new();
-    for example in [examples::of_document_01(), examples::of_filings()]
-        .iter()
-        .flatten()
-    {
-        seeds.push(order(&example.arrival));
-        seeds.push(tallied(&example.arrival, [999_999, 0, 999_999, 0]));
+    let cases = cases::all();
+    for expected in &cases.orders {
+        seeds.push(order(&expected.case));
+        seeds.push(tallied(&expected.case, [999_999, 0, 999_999, 0]));
     }
-    for (_, quoted, _) in examples::quotes_of_000() {
-        seeds.push(quote(&quoted));
+    for expected in &cases.quotes {
+        seeds.push(quote(&expected.case));
     }
     for _ in 0..RAW_CASES {
         seeds.push(order(&generate::arrival(&mut random)));

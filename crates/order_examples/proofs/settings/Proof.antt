@@ -2,8 +2,8 @@
 use mathlib.Core.Path.{refl, _∙_}
 use Rattle.rules.proofs.Handed.{settings-whole}
 use borrow.Author.Needs.{needs}
-use Rattle.order_examples.proofs.example.settings.Statement.{statement}
-use Rattle.order_examples.proofs.example.settings.Tie as tie
+use Rattle.order_examples.proofs.settings.Statement.{statement}
+use Rattle.order_examples.proofs.settings.Tie as tie
 
 returns : tie.Need-returns
 returns c = c .settings-of .ensures ∙ settings-whole _ refl

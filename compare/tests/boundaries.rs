@@ -1,13 +1,50 @@
-//! Numbers 1 and 3 to 10.
+//! Orders beyond what a line of a case can say, or too many for lines: slices of every length, every
+//! bit of a count, every byte of a symbol, faults together, and markets of small prices. Each case
+//! names its number, where it is one that the rules give, so both implementations are held to the
+//! rules and not only to each other.
 
-use super::{hold, purchase, sale, undetermined, MARCH};
 use compare::{
     arrival::{Answer, Arrival, RawLeg},
-    limits::{self, every_length, faults_together, Fault, EXTREMES},
+    checks::distance,
+    limits::{every, every_length, faults_together, Fault},
     run::Run,
     series::{call, put},
-    slices::{market::*, setting::*},
+    slices::{market::*, setting::*, EXAMPLE_SETTINGS},
 };
+
+const MARCH: u64 = 160_318;
+
+/// Puts an arrival to both, and holds the number.
+fn hold(run: &mut Run, arrival: &Arrival, number: u64) {
+    let answer = run.compare(arrival);
+    assert_eq!(
+        answer.number,
+        number,
+        "{} at {}\n{arrival}",
+        arrival.legs_as_text(),
+        arrival.price
+    );
+}
+
+/// A sale of one call, which no check but 25 looks at.
+fn sale() -> Arrival {
+    Arrival::limit(&[call(MARCH, 20_000).leg(-1)], -1_000)
+}
+
+/// A purchase of one call, which 20 to 25 leave alone while the market's values are missing.
+fn purchase() -> Arrival {
+    Arrival::limit(&[call(MARCH, 20_000).leg(1)], 1_000)
+}
+
+/// An undetermined order without shape, which no check looks at.
+fn undetermined() -> Arrival {
+    let legs = [
+        call(MARCH, 10_000).leg(1),
+        call(MARCH, 20_000).leg(-2),
+        put(MARCH, 15_000).leg(1),
+    ];
+    Arrival::limit(&legs, 8_000)
+}
 
 /// So many calls bought at rising strikes, at a price that no check rejects.
 fn calls(number: usize) -> Arrival {
@@ -84,132 +121,25 @@ fn counts() {
     run.finish(&[0, 5], 900);
 }
 
+/// Every byte at every place of an order with a short root, and of one with the longest.
 #[test]
 fn symbols() {
     let mut run = Run::new("symbols of legs");
-    let mut switched_off = undetermined();
-    switched_off.settings[CHECK_20..=CHECK_26].fill(0);
-    for place in 0..switched_off.symbols.len() {
-        for byte in 0..=u8::MAX {
-            let mut arrival = switched_off.clone();
-            arrival.symbols[place] = byte;
-            run.compare(&arrival);
+    for root in ["XYZ   ", "ABCDEF"] {
+        let mut order = undetermined();
+        order.settings[CHECK_20..=CHECK_26].fill(0);
+        for symbol in order.symbols.chunks_mut(21) {
+            symbol[..6].copy_from_slice(root.as_bytes());
+        }
+        for place in 0..order.symbols.len() {
+            for byte in 0..=u8::MAX {
+                let mut arrival = order.clone();
+                arrival.symbols[place] = byte;
+                run.compare(&arrival);
+            }
         }
     }
-    // Strikes at the limits of their field, the same series twice, and one that differs in a part.
-    for strike in [1, 99_999_999] {
-        let legs = [call(MARCH, strike).leg(1), put(MARCH, strike).leg(1)];
-        hold(&mut run, &Arrival::limit(&legs, 20), 0);
-    }
-    hold(&mut run, &Arrival::limit(&[call(MARCH, 0).leg(1)], 1), 4);
-    let one = call(MARCH, 20_000).leg(1);
-    for (other, number) in [
-        (call(MARCH, 20_000).leg(1), 6),
-        (call(MARCH, 20_000).leg(-1), 6),
-        (call(MARCH, 20_001).leg(1), 0),
-        (call(MARCH + 1, 20_000).leg(1), 0),
-        (put(MARCH, 20_000).leg(1), 0),
-    ] {
-        hold(&mut run, &Arrival::limit(&[one, other], 1_000), number);
-    }
-    different_roots(&mut run);
-    run.finish(&[0, 4, 6, 7], 63 * 256);
-}
-
-fn different_roots(run: &mut Run) {
-    let one = call(MARCH, 20_000).leg(1);
-    for root in ["XYZ1", "XY", "XYY", "XYZXYZ", "YYZ"] {
-        let mut other = call(MARCH, 20_000);
-        other.root = root; // equal but for the root: not a series twice
-        let arrival = Arrival::limit(&[one, other.leg(1)], 1_000);
-        hold(run, &arrival, 7);
-    }
-    // Roots of six characters that differ in one place.
-    for root in ["ABCDEG", "ABCDFF", "ABCEEF", "ABDDEF", "ACCDEF", "BBCDEF"] {
-        let (mut this, mut other) = (call(MARCH, 20_000), call(MARCH, 30_000));
-        (this.root, other.root) = ("ABCDEF", root);
-        let arrival = Arrival::limit(&[this.leg(1), other.leg(1)], 1_000);
-        hold(run, &arrival, 7);
-    }
-}
-
-#[test]
-fn prices() {
-    const MOST: i64 = 1_000_000_000_000;
-    let mut run = Run::new("prices");
-    let prices = [
-        i64::MIN,
-        i64::MIN + 1,
-        -MOST - 1,
-        -MOST,
-        -MOST + 1,
-        -1,
-        0,
-        1,
-        MOST - 1,
-        MOST,
-        MOST + 1,
-        i64::MAX - 1,
-        i64::MAX,
-    ];
-    for price in prices {
-        for kind in [0, 1, u64::MAX] {
-            let small = (-MOST..=MOST).contains(&price);
-            let or_8 = |within| if within { 0 } else { 8 };
-            let at = |arrival: Arrival| Arrival {
-                price,
-                kind,
-                ..arrival
-            };
-            hold(&mut run, &at(purchase()), or_8(small && price > 0));
-            hold(&mut run, &at(sale()), or_8(small && price < 0));
-            hold(&mut run, &at(undetermined()), or_8(small));
-        }
-    }
-    run.finish(&[0, 8], 100);
-}
-
-#[test]
-fn settings() {
-    let mut run = Run::new("settings");
-    for (place, value, within) in limits::of_settings() {
-        let number = if within { 0 } else { 9 };
-        hold(&mut run, &with_setting(place, value), number);
-    }
-    for place in (CHECK_20..=CHECK_26).chain([ADJUSTED, EUROPEAN]) {
-        for value in [&[0, 1, 2][..], &EXTREMES].concat() {
-            hold(&mut run, &with_setting(place, value), 0);
-        }
-    }
-    let presets = [0, 1, 2, 999_999, 1_000_000, 1_000_001, u64::MAX];
-    for minimum in presets {
-        for maximum in presets {
-            let mut arrival = sale();
-            arrival.settings[PRESET_MINIMUM] = minimum;
-            arrival.settings[PRESET_MAXIMUM] = maximum;
-            let within = minimum <= maximum && maximum <= 1_000_000;
-            hold(&mut run, &arrival, if within { 0 } else { 9 });
-        }
-    }
-    run.finish(&[0, 9], 300);
-}
-
-fn with_setting(place: usize, value: u64) -> Arrival {
-    let mut arrival = sale();
-    arrival.settings[place] = value;
-    arrival
-}
-
-#[test]
-fn market() {
-    let mut run = Run::new("market");
-    for (place, value, within) in limits::of_market() {
-        let mut arrival = sale();
-        arrival.settings[CHECK_20..=CHECK_26].fill(0);
-        arrival.market[place] = value;
-        hold(&mut run, &arrival, if within { 0 } else { 10 });
-    }
-    run.finish(&[0, 10], 100);
+    run.finish(&[0, 4, 6, 7], 2 * 63 * 256);
 }
 
 /// Faults that can be made one on top of the other.
@@ -260,4 +190,39 @@ fn lowest_number_first() {
         }
     }
     run.finish(&[0, 1, 3, 4, 5, 6, 7, 8, 9, 10], 80 * 512);
+}
+
+/// Every market over a few values around the limit of a band, at every price next to a limit that one
+/// of them could draw. Each band has a distance of its own, and there are two ticks.
+#[test]
+fn every_small_market() {
+    let mut run = Run::new("25 on small markets");
+    let mut settings = EXAMPLE_SETTINGS.to_vec();
+    settings[TICK_BELOW_3000..=TICK_FROM_3000].copy_from_slice(&[11, 13]);
+    settings[ATD_BELOW_1000..=ATD_FROM_10000].copy_from_slice(&[2, 3, 5, 7]);
+    for limit in [1_000, 3_000, 10_000] {
+        let references = [limit - 1, limit, limit + 1];
+        let limits = references.map(|reference| {
+            let (reference, distance) = (reference as i64, distance(&settings, reference.into()));
+            [reference - distance as i64, reference + distance as i64]
+        });
+        let values = [&[0], &references[..]].concat();
+        for prices in every::<5, u64>(&values) {
+            for (phase, open_elsewhere) in [(0, 0), (0, 1), (1, 0), (2, 0)] {
+                for (order, side) in [(purchase(), 1), (sale(), -1)] {
+                    let mut arrival = order;
+                    arrival.settings = settings.clone();
+                    arrival.market = [&[phase, open_elsewhere, 0, 0], &prices[..]].concat();
+                    for amount in limits.iter().flatten() {
+                        for change in [-1, 0, 1] {
+                            arrival.price = (amount + change) * side;
+                            run.compare(&arrival);
+                        }
+                    }
+                }
+            }
+        }
+    }
+    run.finish(&[0, 25], 3 * 1_024 * 4 * 2 * 18);
+    assert!(run.given(0).min(run.given(25)) > 30_000);
 }

@@ -1,0 +1,392 @@
+//! The cases that every implementation is held to: the files `cases/*.desk`, lines of the desk's
+//! form (`host/desk --help`), each order and quote with its expected answer after `#=`.
+//!
+//! A line that cannot be read is an error with its place, and so is an order or a quote without an
+//! answer: no case is passed over.
+
+use crate::{
+    arrival::{Answer, Arrival, RawLeg},
+    case::Case,
+    numbers::{self, kind, Kind, Of},
+    quote::{Quote, QuoteAnswer},
+    slices::{market, setting, EXAMPLE_MARKET, EXAMPLE_SETTINGS},
+    SYMBOL_LENGTH,
+};
+use std::{fs, path::Path, str};
+
+/// A case with its whole answer, and where it stands.
+pub struct Expected<C: Case> {
+    pub place: String,
+    pub case: C,
+    pub answer: C::Answer,
+}
+
+#[derive(Default)]
+pub struct Cases {
+    pub orders: Vec<Expected<Arrival>>,
+    pub quotes: Vec<Expected<Quote>>,
+}
+
+/// The cases of every file.
+pub fn all() -> Cases {
+    let folder = Path::new(concat!(env!("CARGO_MANIFEST_DIR"), "/../cases"));
+    let entries = fs::read_dir(folder).expect("the folder of cases");
+    let mut paths: Vec<_> = entries.map(|entry| entry.expect("a file").path()).collect();
+    paths.retain(|path| path.extension().is_some_and(|end| end == "desk"));
+    paths.sort();
+    let mut cases = Cases::default();
+    for path in paths {
+        let name = path.file_name().expect("a file has a name");
+        let text = fs::read(&path).expect("a file of cases");
+        let read = cases.add(&format!("cases/{}", name.display()), &text);
+        read.unwrap_or_else(|trouble| panic!("{trouble}"));
+    }
+    cases
+}
+
+impl Cases {
+    /// Adds the cases of one file, or says where it cannot be read.
+    fn add(&mut self, name: &str, text: &[u8]) -> Result<(), String> {
+        let mut terms = Terms::of_examples();
+        for (line, number) in text.split(|&byte| byte == b'\n').zip(1..) {
+            let line = Rest(line.strip_suffix(b"\r").unwrap_or(line));
+            let place = format!("{name}:{number}");
+            self.add_line(&place, line, &mut terms)
+                .map_err(|trouble| format!("{place}: {trouble}"))?;
+        }
+        Ok(())
+    }
+
+    fn add_line(&mut self, place: &str, mut line: Rest, terms: &mut Terms) -> Result<(), String> {
+        let place = place.to_string();
+        match line.field() {
+            b"order" => self.orders.push(Expected {
+                place,
+                case: line.order(terms)?,
+                answer: line.answer(order_answer)?,
+            }),
+            b"quote" => self.quotes.push(Expected {
+                place,
+                case: line.quote(terms)?,
+                answer: line.answer(quote_answer)?,
+            }),
+            b"set" => line.set(terms)?,
+            b"reset" => {
+                [] = line.flags([])?;
+                *terms = Terms::of_examples();
+            }
+            b"" => (),
+            other => return Err(format!("no line begins with '{}'", other.escape_ascii())),
+        }
+        Ok(())
+    }
+}
+
+/// Settings and market for the lines below.
+struct Terms {
+    settings: Vec<u64>,
+    market: Vec<u64>,
+}
+
+impl Terms {
+    fn of_examples() -> Self {
+        Terms {
+            settings: EXAMPLE_SETTINGS.to_vec(),
+            market: EXAMPLE_MARKET.to_vec(),
+        }
+    }
+
+    fn named(&mut self, name: &str) -> Option<&mut u64> {
+        let settings = setting::NAMES.iter().zip(&mut self.settings);
+        let mut all = settings.chain(market::NAMES.iter().zip(&mut self.market));
+        all.find_map(|(known, number)| (known.to_lowercase() == name).then_some(number))
+    }
+}
+
+/// What is left of a line.
+struct Rest<'a>(&'a [u8]);
+
+impl<'a> Rest<'a> {
+    /// The next field, which stays the next one: empty where the line ends or a comment begins.
+    fn peek(&mut self) -> &'a [u8] {
+        self.0 = &self.0[length_while(self.0, |byte| BLANKS.contains(byte))..];
+        let length = match self.0 {
+            [b'#', ..] => 0,
+            [b';', ..] => 1,
+            line => length_while(line, |byte| !ends_field(byte)),
+        };
+        &self.0[..length]
+    }
+
+    fn field(&mut self) -> &'a [u8] {
+        let field = self.peek();
+        self.0 = &self.0[field.len()..];
+        field
+    }
+
+    /// The next field, which is to be there and to be read as something.
+    fn take<T>(&mut self, what: &str, read: impl Fn(&'a str) -> Option<T>) -> Result<T, String> {
+        let field = self.field();
+        let text = str::from_utf8(field).ok();
+        let text = text.filter(|text| !["", ";"].contains(text));
+        text.and_then(read)
+            .ok_or_else(|| format!("{what} cannot be read: '{}'", field.escape_ascii()))
+    }
+
+    /// Flags, each set by its word, up to the line's end: no other word may come, and none twice.
+    fn flags<const N: usize>(&mut self, words: [&str; N]) -> Result<[u64; N], String> {
+        let mut flags = [0; N];
+        while !self.peek().is_empty() {
+            let known = |word| words.iter().position(|&known| known == word);
+            flags[self.take("a word", |word| known(word).filter(|&at| flags[at] == 0))?] = 1;
+        }
+        Ok(flags)
+    }
+
+    fn answer<T>(&mut self, read: fn(&str) -> Option<T>) -> Result<T, String> {
+        let text = self.0.strip_prefix(b"#=").ok_or("the answer is missing")?;
+        let answer = str::from_utf8(text).ok().and_then(|text| read(text.trim()));
+        answer.ok_or_else(|| format!("no answer is '{}'", text.escape_ascii()))
+    }
+
+    /// A value with a point is dollars, one without the number itself.
+    fn set(&mut self, terms: &mut Terms) -> Result<(), String> {
+        let setting = |text: &'a str| {
+            let (name, value) = text.split_once('=')?;
+            let read: fn(&str) -> Option<u64> = if value.contains('.') { mills } else { whole };
+            Some((name, read(value)?))
+        };
+        loop {
+            let (name, value) = self.take("a setting", setting)?;
+            let number = terms.named(name);
+            *number.ok_or_else(|| format!("nothing is named '{name}'"))? = value;
+            if self.peek().is_empty() {
+                return Ok(());
+            }
+        }
+    }
+
+    fn order(&mut self, terms: &Terms) -> Result<Arrival, String> {
+        let price = self.take("a price", |text| signed(text, mills))?;
+        let mut legs = Vec::new();
+        if let [b'+' | b'-', ..] = self.peek() {
+            legs.push(self.leg()?);
+            while self.peek() == b";" {
+                self.field();
+                legs.push(self.leg()?);
+            }
+        }
+        let [kind, stop, manual, opening] = self.flags(["market", "stop", "manual", "opening"])?;
+        Ok(Arrival {
+            kind,
+            stop,
+            manual,
+            opening,
+            settings: terms.settings.clone(),
+            market: terms.market.clone(),
+            ..Arrival::limit(&legs, price)
+        })
+    }
+
+    fn quote(&mut self, terms: &Terms) -> Result<Quote, String> {
+        let symbol = self.series()?;
+        let [bid, offer] = [self.take("a bid", mills)?, self.take("an offer", mills)?];
+        let [resting] = self.flags(["resting"])?;
+        Ok(Quote {
+            resting,
+            settings: terms.settings.clone(),
+            market: terms.market.clone(),
+            ..Quote::new(&symbol, bid, offer)
+        })
+    }
+
+    fn leg(&mut self) -> Result<RawLeg, String> {
+        let with_sign = |text: &&str| text.starts_with(['+', '-']);
+        let count = |text| signed(Some(text).filter(with_sign)?, whole);
+        let count = self.take("a count", count)?;
+        Ok((self.series()?, count))
+    }
+
+    /// A symbol as it is, or its parts in the fields of the layout, which may forbid them. Parts that
+    /// no 21 bytes hold, a root of seven characters or a strike of 100000 dollars, become zeros: these
+    /// are outside the layout too, so 4 or what is lower is given as for any bytes outside it.
+    fn series(&mut self) -> Result<[u8; SYMBOL_LENGTH], String> {
+        let begun = !self.peek().is_empty();
+        if let Some((&symbol, rest)) = self.0.split_first_chunk().filter(|_| begun) {
+            let breaks = |byte: &u8| ends_field(byte) || *byte == b'#';
+            if !symbol[6..].iter().any(breaks) && rest.first().is_none_or(ends_field) {
+                self.0 = rest;
+                return Ok(symbol);
+            }
+        }
+        let root = self.take("a root", |text| Some(text).filter(|text| text.len() <= 8))?;
+        let expiry = self.take("an expiry", |text| whole(text).filter(|_| text.len() == 6))?;
+        let option_type = self.take("a type", |text| text.parse::<char>().ok())?;
+        let strike = self.take("a strike", mills)?;
+        let symbol = format!("{root:<6}{expiry:06}{option_type}{strike:08}");
+        Ok(symbol.as_bytes().try_into().unwrap_or_default())
+    }
+}
+
+const BLANKS: &[u8] = b" \t";
+
+fn ends_field(byte: &u8) -> bool {
+    *byte == b';' || BLANKS.contains(byte)
+}
+
+fn length_while(bytes: &[u8], holds: impl Fn(&u8) -> bool) -> usize {
+    bytes.iter().take_while(|byte| holds(byte)).count()
+}
+
+/// Digits alone.
+fn whole(text: &str) -> Option<u64> {
+    let digits = text.bytes().all(|byte| byte.is_ascii_digit());
+    text.parse().ok().filter(|_| digits)
+}
+
+/// Dollars without a sign: digits, then none or a point and one to three more.
+fn mills(text: &str) -> Option<u64> {
+    let (dollars, decimals) = text.split_once('.').unwrap_or((text, "0"));
+    let right = whole(dollars).and(whole(decimals)).is_some() && decimals.len() <= 3;
+    whole(&format!("{dollars}{decimals:0<3}")).filter(|_| right)
+}
+
+/// A size, after a sign or none.
+fn signed(text: &str, size: fn(&str) -> Option<u64>) -> Option<i64> {
+    let (sign, digits) = match text.strip_prefix('-') {
+        Some(digits) => (-1, digits),
+        None => (1, text.strip_prefix('+').unwrap_or(text)),
+    };
+    i64::try_from(sign * i128::from(size(digits)?)).ok()
+}
+
+/// The names of classes and of shapes, each at its number.
+const CLASSES: [&str; 3] = ["undetermined", "debit", "credit"];
+#[rustfmt::skip]
+const SHAPES: [&str; 5] = ["other", "vertical", "true butterfly", "skewed butterfly", "box"];
+
+fn place(names: &[&str], name: &str) -> Option<u64> {
+    let place = names.iter().position(|&known| known == name);
+    place.map(|place| place as u64)
+}
+
+fn number_of(what: Of, text: &str) -> Option<u64> {
+    whole(text).filter(|number| numbers::of(what).contains(number))
+}
+
+/// NUMBER of a refusal, otherwise NUMBER CLASS, SHAPE, PAIRINGS.
+fn order_answer(text: &str) -> Option<Answer> {
+    let (number, words) = text.split_once(' ').unwrap_or((text, ""));
+    let number = number_of(Of::Order, number)?;
+    if kind(number) == Kind::Refused {
+        return words.is_empty().then_some(Answer::refusal(number));
+    }
+    let (class, words) = words.split_once(", ")?;
+    let (shape, pairings) = words.split_once(", ")?;
+    Some(Answer {
+        number,
+        class: place(&CLASSES, class)?,
+        shape: place(&SHAPES, shape)?,
+        pairings: whole(pairings)?,
+    })
+}
+
+/// NUMBER, or NUMBER cancel.
+fn quote_answer(text: &str) -> Option<QuoteAnswer> {
+    let (number, cancel) = match text.strip_suffix(" cancel") {
+        Some(number) => (number, 1),
+        None => (text, 0),
+    };
+    Some(QuoteAnswer {
+        number: number_of(Of::Quote, number)?,
+        cancel,
+    })
+}
+
+#[cfg(test)]
+mod tests {
+    use super::*;
+
+    fn read(text: &str) -> Result<Cases, String> {
+        let mut cases = Cases::default();
+        cases.add("file", text.as_bytes()).map(|()| cases)
+    }
+
+    const UNREADABLE: &str = "\
+sell
+reset nbo
+set
+set nbo
+set nbo=-1
+set NBO=1
+set close=1
+set nbo=1 nbb=1.0000
+set nbo=18446744073709551616
+order #= 3
+order 1. #= 3
+order .5 #= 3
+order +-1 #= 3
+order 9223372036854775.808 #= 3
+order 1
+order 1 # 3
+order 1 #=
+order 1 #= 2
+order 1 #= 3 debit, other, 0
+order 1 #= 0
+order 1 #= 0 debit, other
+order 1 #= 0 debit, butterfly, 1
+order 1 buy #= 3
+order 1 stop stop #= 3
+order 1 1 XYZ 270115 C 20 #= 4
+order 1 +1 XYZ 270115 C #= 4
+order 1 +1 XYZ 270115 C -20 #= 4
+order 1 +1 XYZ 270115 CP 20 #= 4
+order 1 +1 XYZ 27115 C 20 #= 4
+order 1 +1 ABCDEFGHI 270115 C 20 #= 4
+order 1 +1 ; 270115 C 20 #= 4
+order 1 +1 XYZ 270115 C 20; #= 4
+order 1 +1 XYZ 270115 C 20 +1 XYZ 270115 C 21 #= 4
+order 1 +1 XYZ   270115C000200000 #= 4
+quote XYZ 270115 C 20 1 2
+quote XYZ 270115 C 20 1 #= 0
+quote XYZ 270115 C 20 1 2 stop #= 0
+quote XYZ 270115 C 20 1 2 #= 3
+quote XYZ 270115 C 20 1 2 #= 20 cancelled";
+
+    #[test]
+    fn what_cannot_be_read_is_an_error_with_its_place() {
+        for line in UNREADABLE.lines() {
+            let trouble = read(&format!("# first\n{line}")).err();
+            let trouble = trouble.unwrap_or_else(|| panic!("read: {line}"));
+            assert!(trouble.starts_with("file:2: "), "{trouble}");
+        }
+    }
+
+    #[test]
+    fn lines_are_read() {
+        let cases = read(
+            "set nbo=1.2 phase=2 # both\r\n\
+            order -0.02 -1 a 270229 C 20;+2\tX Y#Z 270115C00020000 opening market #= 4\n\
+            reset\n\
+            quote ABCDEFG 270115 P 0.5 1 2.05 resting #= 20 cancel",
+        );
+        let Cases { orders, quotes } = cases.unwrap_or_else(|trouble| panic!("{trouble}"));
+        let [order, quote] = [&orders[0].place, &quotes[0].place];
+        assert_eq!([order, quote], ["file:2", "file:4"]);
+        let mut order = Arrival::limit(
+            &[
+                (*b"a     270229C00020000", -1),
+                (*b"X Y#Z 270115C00020000", 2),
+            ],
+            -20,
+        );
+        (order.kind, order.opening) = (1, 1);
+        (order.market[market::NBO], order.market[market::PHASE]) = (1_200, market::HALT);
+        assert_eq!(orders[0].case, order);
+        assert_eq!(orders[0].answer, Answer::refusal(4));
+        let mut quote = Quote::new(&[0; 21], 1_000, 2_050);
+        quote.resting = 1;
+        assert_eq!(quotes[0].case, quote);
+        assert_eq!((quotes[0].answer.number, quotes[0].answer.cancel), (20, 1));
+    }
+}

@@ -1,0 +1,298 @@
+//! Every case of the files `cases/*.desk`, held by the library and by the second implementation; and
+//! what becomes of each when something in it is changed: both must answer alike, and as a rule says
+//! where one says how.
+
+use compare::{
+    arrival::{Arrival, RawLeg},
+    case::Case,
+    cases::{self, Expected},
+    limits::{every, EXTREMES},
+    numbers::{self, kind, Kind, Of, ACCEPTED, BAD_MARKET, BAD_SETTING, NOT_21_BYTES},
+    order,
+    quote::{Quote, QuoteAnswer},
+    run::Run,
+    slices::{market, setting},
+};
+use std::collections::BTreeSet;
+
+/// Every number that a line can get: none lends bytes of another length.
+fn numbers_of(what: Of) -> Vec<u64> {
+    let numbers = numbers::of(what).into_iter();
+    numbers.filter(|&number| number != NOT_21_BYTES).collect()
+}
+
+/// Holds the cases of all files, among which must be these two.
+fn hold<C: Case>(run: &mut Run, cases: &[Expected<C>], files: [&str; 2]) {
+    for expected in cases {
+        let (case, place) = (&expected.case, &expected.place);
+        assert_eq!(case.second(), expected.answer, "{place}");
+        run.expect(case, expected.answer, place);
+    }
+    for file in files {
+        let held = cases.iter().any(|case| case.place.starts_with(file));
+        assert!(held, "{file}");
+    }
+}
+
+#[test]
+fn both_hold_every_order() {
+    let mut run = Run::new("orders of cases");
+    let orders = cases::all().orders;
+    hold(
+        &mut run,
+        &orders,
+        ["cases/orders.desk", "cases/papers.desk"],
+    );
+    for order in &orders {
+        let by_contracts = order::check_by_contracts(&order.case);
+        assert_eq!(by_contracts, order.answer, "{}, by contracts", order.place);
+    }
+    run.finish(&numbers_of(Of::Order), 500);
+    run.require_classes_and_shapes(1);
+}
+
+/// Whether a quote is resting changes the cancel flag alone, which is set where a check rejects.
+#[test]
+fn both_hold_every_quote() {
+    let mut run = Run::new("quotes of cases");
+    let quotes = cases::all().quotes;
+    hold(
+        &mut run,
+        &quotes,
+        ["cases/quotes.desk", "cases/papers.desk"],
+    );
+    for quote in quotes {
+        let number = quote.answer.number;
+        for resting in [0, 1, u64::MAX] {
+            let cancel = u64::from(resting != 0 && kind(number) == Kind::Rejected);
+            let case = Quote {
+                resting,
+                ..quote.case.clone()
+            };
+            run.expect(&case, QuoteAnswer { number, cancel }, &quote.place);
+        }
+    }
+    run.finish(&numbers_of(Of::Quote), 4 * 300);
+}
+
+/// An order is the same in another sequence of its legs, and where all counts are divided or
+/// multiplied by one number, which leaves the unit counts.
+#[test]
+fn sequence_and_scale_change_nothing() {
+    let mut run = Run::new("sequence and scale");
+    for order in cases::all().orders {
+        let mut hold = |legs: Vec<RawLeg>| {
+            run.expect(&order.case.with_legs(&legs), order.answer, &order.place);
+        };
+        let mut legs = order.case.legs();
+        for _ in 0..legs.len() {
+            legs.rotate_left(1);
+            hold(legs.clone());
+            hold(legs.iter().rev().copied().collect());
+        }
+        let sizes = legs.iter().map(|leg| leg.1.unsigned_abs());
+        let Some(largest @ 1..=10_000) = sizes.max().map(|size| size as i64) else {
+            continue; // a count outside its limits may come within them
+        };
+        let divides = |by: &i64| legs.iter().all(|leg| leg.1 % by == 0);
+        let divisors = (1..=largest).filter(divides).map(|by| (1, by));
+        let factors = [2, 10_000 / largest].map(|by| (by, 1)).into_iter();
+        for (up, down) in divisors.chain(factors.filter(|by| by.0 * largest <= 10_000)) {
+            let scaled = legs.iter().map(|leg| (leg.0, leg.1 * up / down));
+            hold(scaled.collect());
+        }
+    }
+    run.finish(&numbers_of(Of::Order), 2_000);
+}
+
+/// What can be changed in a case.
+trait Varied: Case + Clone {
+    /// The names of the numbers that are neither setting nor market value.
+    const OWN: &'static [&'static str];
+
+    /// The settings and market values that decide nothing as long as they are within their limits.
+    const IDLE: &'static str;
+
+    /// Its own numbers, then settings and market.
+    fn numbers(&mut self) -> Vec<&mut u64>;
+
+    /// The case, and the same at prices next to its own.
+    fn at_near_prices(&self) -> Vec<Self>;
+
+    fn number(answer: &Self::Answer) -> u64;
+
+    fn names() -> Vec<&'static str> {
+        [Self::OWN, setting::NAMES, market::NAMES].concat()
+    }
+
+    /// Replaces the settings and the market, or the first of them.
+    fn put_terms(&mut self, terms: &[u64]) {
+        let places = self.numbers().into_iter().skip(Self::OWN.len());
+        places.zip(terms).for_each(|(place, term)| *place = *term);
+    }
+}
+
+impl Varied for Arrival {
+    const OWN: &'static [&'static str] = &["KIND", "STOP", "MANUAL", "OPENING"];
+    const IDLE: &'static str = "CHECK_26 SET_TICKS";
+
+    fn numbers(&mut self) -> Vec<&mut u64> {
+        let flags = [&mut self.kind, &mut self.stop, &mut self.manual];
+        let flags = flags.into_iter().chain([&mut self.opening]);
+        let terms = self.settings.iter_mut().chain(&mut self.market);
+        flags.chain(terms).collect()
+    }
+
+    fn at_near_prices(&self) -> Vec<Self> {
+        let more_and_less = [0, 1, -1].map(|by| self.price.wrapping_add(by));
+        let prices = more_and_less.into_iter().chain([self.price.wrapping_neg()]);
+        let at = |price| Arrival {
+            price,
+            ..self.clone()
+        };
+        prices.map(at).collect()
+    }
+
+    fn number(answer: &Self::Answer) -> u64 {
+        answer.number
+    }
+}
+
+impl Varied for Quote {
+    const OWN: &'static [&'static str] = &["BID", "OFFER", "RESTING"];
+    const IDLE: &'static str = "CHECK_22 CHECK_23 CHECK_24 CHECK_25 NET_INCREMENT \
+        ATD_BELOW_1000 ATD_TO_2999 ATD_TO_9999 ATD_FROM_10000 \
+        PERCENTAGE PRESET_MINIMUM PRESET_MAXIMUM EUROPEAN_INDEX PREVIOUS_CLOSE";
+
+    fn numbers(&mut self) -> Vec<&mut u64> {
+        let own = [&mut self.bid, &mut self.offer, &mut self.resting];
+        let terms = self.settings.iter_mut().chain(&mut self.market);
+        own.into_iter().chain(terms).collect()
+    }
+
+    fn at_near_prices(&self) -> Vec<Self> {
+        let by = |(bid, offer)| Quote {
+            bid: self.bid.wrapping_add_signed(bid),
+            offer: self.offer.wrapping_add_signed(offer),
+            ..self.clone()
+        };
+        [(0, 0), (1, 0), (-1, 0), (0, 1), (0, -1)].map(by).to_vec()
+    }
+
+    fn number(answer: &Self::Answer) -> u64 {
+        answer.number
+    }
+}
+
+/// Whether a number is 0 for no, and anything else for yes.
+fn is_flag(name: &str) -> bool {
+    let others =
+        "KIND STOP MANUAL OPENING RESTING ADJUSTED EUROPEAN_INDEX OPEN_ELSEWHERE EXTENDED_HOURS";
+    name.starts_with("CHECK_") || others.split(' ').any(|flag| flag == name)
+}
+
+/// Gives every number other values, at every price near that of the case. All values of a flag but 0
+/// are alike; and each number decides somewhere, except those that no rule of the check names.
+fn change_numbers<C: Varied>(run: &mut Run, cases: &[Expected<C>]) {
+    let values = [0, 1, 2, 3, 255, 256, 1 << 16, 1 << 31, (1 << 32) + 1];
+    let refused = |answer: &C::Answer| [BAD_SETTING, BAD_MARKET].contains(&C::number(answer));
+    let mut deciding = BTreeSet::new();
+    for mut case in cases.iter().flat_map(|case| case.case.at_near_prices()) {
+        let before = run.compare(&case);
+        for (place, name) in C::names().into_iter().enumerate() {
+            let value = *case.numbers()[place];
+            let near = [value.wrapping_sub(1), value.wrapping_add(1)];
+            let mut yes = None;
+            for other in [&values[..], &EXTREMES, &near].concat() {
+                *case.numbers()[place] = other;
+                let answer = run.compare(&case);
+                if other != 0 && is_flag(name) {
+                    assert_eq!(answer, *yes.get_or_insert(answer), "{name}: {case}");
+                }
+                if answer != before && !refused(&answer) && !refused(&before) {
+                    deciding.insert(name);
+                }
+            }
+            *case.numbers()[place] = value;
+        }
+    }
+    let mut idle = C::names();
+    idle.retain(|name| !deciding.contains(name));
+    assert_eq!(idle.join(" "), C::IDLE);
+}
+
+#[test]
+fn numbers_of_orders_changed() {
+    let mut run = Run::new("orders changed");
+    change_numbers(&mut run, &cases::all().orders);
+    run.finish(&numbers_of(Of::Order), 500_000);
+}
+
+#[test]
+fn numbers_of_quotes_changed() {
+    let mut run = Run::new("quotes changed");
+    change_numbers(&mut run, &cases::all().quotes);
+    run.finish(&numbers_of(Of::Quote), 500_000);
+}
+
+/// With every choice of switches, the lowest check is given that is on and rejects the case alone.
+/// Tells which checks reject a case together.
+fn switch_checks<C: Varied>(run: &mut Run, cases: &[Expected<C>]) -> BTreeSet<Vec<u64>> {
+    let mut together = BTreeSet::new();
+    let is_valid = |case: &&Expected<C>| kind(C::number(&case.answer)) != Kind::Refused;
+    for expected in cases.iter().filter(is_valid) {
+        let mut case = expected.case.clone();
+        let with_switches = |switches: [u64; 7]| {
+            case.put_terms(&switches);
+            C::number(&run.compare(&case))
+        };
+        let numbers: Vec<u64> = every(&[0, 1]).map(with_switches).collect();
+        let rejecting = |choice: usize| {
+            let on = (0..7).filter(|check| choice >> check & 1 == 1);
+            let rejecting = on.filter(|check| numbers[1 << check] != ACCEPTED);
+            rejecting.map(|check| 20 + check).collect::<Vec<u64>>()
+        };
+        for (choice, number) in numbers.iter().enumerate() {
+            let lowest = rejecting(choice).first().copied();
+            assert_eq!(*number, lowest.unwrap_or(ACCEPTED), "{}", expected.place);
+        }
+        together.insert(rejecting(127));
+    }
+    together
+}
+
+#[test]
+fn lowest_check_that_is_on() {
+    let mut run = Run::new("switches");
+    let cases = cases::all();
+    let mut together = switch_checks(&mut run, &cases.orders);
+    together.append(&mut switch_checks(&mut run, &cases.quotes));
+    for two in [[20, 25], [21, 25], [22, 23], [23, 24], [20, 26], [21, 26]] {
+        assert!(together.contains(two.as_slice()), "{two:?}");
+    }
+    run.finish(&[0, 20, 21, 22, 23, 24, 25, 26], 128 * 500);
+}
+
+fn put_under<C: Varied>(run: &mut Run, cases: &[Expected<C>], terms: &[u64]) {
+    for mut case in cases.iter().map(|expected| expected.case.clone()) {
+        case.put_terms(terms);
+        run.compare(&case);
+    }
+}
+
+/// Each case under the settings and the market of every other.
+#[test]
+fn every_case_under_all_terms() {
+    let mut run = Run::new("all terms");
+    let cases = cases::all();
+    let of_orders = cases.orders.iter().map(|order| &order.case);
+    let of_orders = of_orders.map(|case| (&case.settings, &case.market));
+    let of_quotes = cases.quotes.iter().map(|quote| &quote.case);
+    let of_quotes = of_quotes.map(|case| (&case.settings, &case.market));
+    for (settings, market) in of_orders.chain(of_quotes).collect::<BTreeSet<_>>() {
+        let terms = [&settings[..], market].concat();
+        put_under(&mut run, &cases.orders, &terms);
+        put_under(&mut run, &cases.quotes, &terms);
+    }
+    run.finish(&[0, 9, 10, 20, 21, 22, 23, 24, 25, 26], 100 * 500);
+}

@@ -1,0 +1,74 @@
+/*
+ * The cases of the files in cases/: each order and quote, with the settings and market that it is
+ * checked against, and the answer that its line has after "#=". Run at the top of the repository.
+ */
+#ifndef CASES_H
+#define CASES_H
+
+#include "expect.h"
+#include "requests.h"
+
+#include <glob.h>
+
+/* The case tried last; without a file where none was. */
+static struct {
+    const char *file;
+    uint64_t line;
+} case_now;
+
+static inline void print_case(void) {
+    if (case_now.file != NULL) {
+        fprintf(stderr, "  case: %s:%" PRIu64 "\n", case_now.file, case_now.line);
+    }
+}
+
+/* Holds an order or a quote to the answer, in the line's words. */
+typedef void hold_case(const struct request *request, const char *answer);
+
+/* What stands after "#=" and a blank. */
+static inline void answer_of(const struct line *line, char answer[LINE_LENGTH]) {
+    static const char mark[] = "#= ";
+    size_t at = 0;
+    while (at < line->len && strncmp(line->text + at, mark, strlen(mark)) != 0) {
+        at++;
+    }
+    expect(at < line->len, "a case without its answer");
+    at += strlen(mark);
+    memcpy(answer, line->text + at, line->len - at);
+    answer[line->len - at] = '\0';
+}
+
+static inline void hold_file(const char *name, enum request_kind kind, hold_case *hold) {
+    static struct line line;
+    static struct request request;
+    char answer[LINE_LENGTH];
+    struct terms terms = first_terms;
+    case_now.file = name;
+    case_now.line = 0;
+    FILE *file = fopen(name, "r");
+    expect(file != NULL, "a file of cases cannot be opened");
+    while (next_line(file, &line)) {
+        case_now.line++;
+        expect(read_request(&line, &terms, &request), "a case that cannot be read");
+        terms = request.terms;
+        if (request.kind == kind) {
+            answer_of(&line, answer);
+            hold(&request, answer);
+        }
+    }
+    expect(!ferror(file), "a file of cases cannot be read");
+    fclose(file);
+    case_now.file = NULL;
+}
+
+/* Holds every order, or every quote, of every file. */
+static inline void hold_cases(enum request_kind kind, hold_case *hold) {
+    glob_t files;
+    expect(glob("cases/*.desk", 0, NULL, &files) == 0, "there are no cases");
+    for (size_t i = 0; i < files.gl_pathc; i++) {
+        hold_file(files.gl_pathv[i], kind, hold);
+    }
+    globfree(&files);
+}
+
+#endif

@@ -1,0 +1,427 @@
+/*
+ * What a line of host/desk asks for, read into structs; host/desk.help says how a line is written.
+ *
+ * No rule of the checks is here. What can be said to the library is kept as it was written, so that
+ * the refusal is the library's; only what cannot be said to it is a line that cannot be read.
+ */
+#ifndef REQUESTS_H
+#define REQUESTS_H
+
+#include "count.h"
+#include "lines.h"
+#include "option_price_check.h"
+
+/* Of an order; more cannot be read. */
+#define LEGS_READ 100
+
+/* What an order or a quote is checked against; `set` changes it. */
+struct terms {
+    struct opc_settings settings;
+    struct opc_market market;
+};
+
+static const struct terms first_terms = {OPC_EXAMPLE_SETTINGS, OPC_EMPTY_MARKET};
+
+/* ---- the names of `set` ---- */
+
+enum unit { UNIT_MONEY, UNIT_TICKS, UNIT_SWITCH, UNIT_HUNDREDTHS, UNIT_PHASE };
+
+/* What is wrong with a value that is not of the unit. */
+static const char *const unit_troubles[] = {
+    [UNIT_MONEY] = "is neither dollars with a point, such as 1.25, nor mills, such as 1250",
+    [UNIT_TICKS] = "is not a whole number of ticks",
+    [UNIT_SWITCH] = "is not a whole number, 0 for no and any other for yes",
+    [UNIT_HUNDREDTHS] = "is not a whole number of hundredths of a percent",
+    [UNIT_PHASE] = "is not a whole number, 0 before the opening, 1 open, 2 in a halt",
+};
+
+struct settable {
+    const char *name;
+    size_t place; /* in struct terms, of an uint64_t */
+    enum unit unit;
+};
+
+#define SETTING(name, unit)                                                                        \
+    { #name, offsetof(struct terms, settings.name), UNIT_##unit }
+#define MARKET(name, unit)                                                                         \
+    { #name, offsetof(struct terms, market.name), UNIT_##unit }
+
+/* The fields of settings and market, in their sequence. */
+static const struct settable settables[] = {
+    SETTING(check_20, SWITCH),
+    SETTING(check_21, SWITCH),
+    SETTING(check_22, SWITCH),
+    SETTING(check_23, SWITCH),
+    SETTING(check_24, SWITCH),
+    SETTING(check_25, SWITCH),
+    SETTING(check_26, SWITCH),
+    SETTING(tick_below_3000, MONEY),
+    SETTING(tick_from_3000, MONEY),
+    SETTING(net_increment, MONEY),
+    SETTING(atd_below_1000, TICKS),
+    SETTING(atd_to_2999, TICKS),
+    SETTING(atd_to_9999, TICKS),
+    SETTING(atd_from_10000, TICKS),
+    SETTING(percentage, HUNDREDTHS),
+    SETTING(preset_minimum, MONEY),
+    SETTING(preset_maximum, MONEY),
+    SETTING(set_ticks, TICKS),
+    SETTING(adjusted, SWITCH),
+    SETTING(european_index, SWITCH),
+    MARKET(phase, PHASE),
+    MARKET(open_elsewhere, SWITCH),
+    MARKET(extended_hours, SWITCH),
+    MARKET(underlying, MONEY),
+    MARKET(nbb, MONEY),
+    MARKET(nbo, MONEY),
+    MARKET(own_bid, MONEY),
+    MARKET(own_offer, MONEY),
+    MARKET(previous_close, MONEY),
+};
+#undef SETTING
+#undef MARKET
+
+static_assert(COUNT(settables) * sizeof(uint64_t) == sizeof(struct terms),
+              "every field of settings and market can be set");
+
+static inline uint64_t value_of(const struct terms *terms, const struct settable *settable) {
+    uint64_t value;
+    memcpy(&value, (const char *)terms + settable->place, sizeof value);
+    return value;
+}
+
+static inline void put_value(struct terms *terms, const struct settable *settable, uint64_t value) {
+    memcpy((char *)terms + settable->place, &value, sizeof value);
+}
+
+/* ---- a request ---- */
+
+enum request_kind {
+    REQUEST_NOTHING, /* an empty line, or a comment alone */
+    REQUEST_ORDER,
+    REQUEST_QUOTE,
+    REQUEST_SET,
+    REQUEST_RESET,
+    REQUEST_SHOW
+};
+
+/* Order and quote point into the request, which so is not to be copied. */
+struct request {
+    enum request_kind kind;
+    struct opc_order order;
+    struct opc_quote quote;
+    struct terms terms;                           /* that hold after the line */
+    const struct settable *set[COUNT(settables)]; /* by the line, in its sequence */
+    size_t set_len;
+    uint8_t symbols[LEGS_READ * OPC_SYMBOL_LENGTH]; /* of the legs; of a quote the first */
+    uint8_t counts[LEGS_READ * OPC_COUNT_LENGTH];
+};
+
+/* ---- the fields of orders and quotes ---- */
+
+static inline bool take_dollars(struct line *line, const char *name, uint64_t *mills) {
+    struct field field;
+    if (!take(line, name, &field)) {
+        return false;
+    }
+    const char *trouble = read_dollars(field, mills);
+    return trouble == NULL || fault(line, field, name, trouble);
+}
+
+static inline bool take_price(struct line *line, int64_t *price) {
+    struct field field;
+    if (!take(line, "price", &field)) {
+        return false;
+    }
+    char sign = sign_of(field);
+    uint64_t mills;
+    const char *trouble = read_dollars(without(field, sign != 0), &mills);
+    trouble = trouble == NULL ? with_sign(sign, mills, price) : trouble;
+    return trouble == NULL || fault(line, field, "price", trouble);
+}
+
+static inline bool take_count(struct line *line, int64_t *count) {
+    struct field field;
+    if (!take(line, "count", &field)) {
+        return false;
+    }
+    char sign = sign_of(field);
+    uint64_t size;
+    const char *trouble = sign == 0 ? "does not begin with + or -" : NULL;
+    trouble = trouble == NULL ? read_whole(without(field, 1), &size) : trouble;
+    trouble = trouble == NULL ? with_sign(sign, size, count) : trouble;
+    return trouble == NULL || fault(line, field, "count", trouble);
+}
+
+/* A root is six bytes with spaces at the end; two more still are a number, so the library's. */
+static inline bool take_root(struct line *line, uint64_t *root) {
+    struct field field;
+    if (!take(line, "root", &field)) {
+        return false;
+    }
+    if (field.len > sizeof *root) {
+        return fault(line, field, "root", "has more than eight characters");
+    }
+    *root = 0;
+    for (size_t i = 0; i < field.len || i < OPC_ROOT_LENGTH; i++) {
+        *root = *root << 8 | (uint8_t)(i < field.len ? field.text[i] : ' ');
+    }
+    return true;
+}
+
+static inline bool take_expiry(struct line *line, struct opc_symbol_parts *parts) {
+    struct field field;
+    uint64_t yymmdd;
+    if (!take(line, "expiry", &field)) {
+        return false;
+    }
+    if (field.len != 6 || read_whole(field, &yymmdd) != NULL) {
+        return fault(line, field, "expiry", "is not six digits, yymmdd");
+    }
+    parts->year = 2000 + yymmdd / 10000;
+    parts->month = yymmdd / 100 % 100;
+    parts->day = yymmdd % 100;
+    return true;
+}
+
+static inline bool take_type(struct line *line, uint64_t *option_type) {
+    struct field field;
+    if (!take(line, "type", &field)) {
+        return false;
+    }
+    if (field.len != 1) {
+        return fault(line, field, "type", "is not one character, C or P");
+    }
+    *option_type = (uint8_t)field.text[0];
+    return true;
+}
+
+/*
+ * Whether the 21 bytes of a symbol come next, with blanks in the root alone, and no comment or next
+ * leg among them. A series in parts never looks so: no part is as long as what follows a root.
+ */
+static inline bool next_symbol(const struct line *line, struct field *symbol) {
+    size_t start = place_of(line, next_field(line));
+    size_t end = start + OPC_SYMBOL_LENGTH;
+    if (end > line->len) {
+        return false;
+    }
+    for (size_t i = start; i < end; i++) {
+        char c = line->text[i];
+        bool in_root = i < start + OPC_ROOT_LENGTH;
+        bool begins = i == start || is_blank(line->text[i - 1]);
+        if (c == ';' || (is_blank(c) && !in_root) || (c == '#' && (begins || !in_root))) {
+            return false;
+        }
+    }
+    *symbol = (struct field){line->text + start, OPC_SYMBOL_LENGTH};
+    return end == line->len || is_blank(line->text[end]) || line->text[end] == ';';
+}
+
+/*
+ * Writes the series' symbol. Where no symbol has these parts, the writer leaves the zeros, which
+ * are outside the layout too: so the check itself refuses them, in its own sequence of refusals.
+ */
+static inline bool take_series(struct line *line, uint8_t out[OPC_SYMBOL_LENGTH]) {
+    struct opc_symbol_parts parts;
+    struct field symbol;
+    uint64_t number;
+    if (next_symbol(line, &symbol)) {
+        memcpy(out, symbol.text, OPC_SYMBOL_LENGTH);
+        pass(line, symbol);
+        return true;
+    }
+    if (!take_root(line, &parts.root) || !take_expiry(line, &parts) ||
+        !take_type(line, &parts.option_type) || !take_dollars(line, "strike", &parts.strike)) {
+        return false;
+    }
+    memset(out, 0, OPC_SYMBOL_LENGTH);
+    opc_write_symbol_parts(&parts, out, OPC_SYMBOL_LENGTH, &number);
+    return true;
+}
+
+/* Reads words to the line's end, and sets the flag of each, which must be one of the names. */
+static inline bool take_words(struct line *line, const char *const names[], uint64_t *const flags[],
+                              size_t len) {
+    for (struct field word = next_field(line); word.len > 0; word = next_field(line)) {
+        size_t i = 0;
+        while (i < len && !is(word, names[i])) {
+            i++;
+        }
+        if (i == len) {
+            return is_at_end(line);
+        }
+        if (*flags[i] != 0) {
+            return fault(line, word, names[i], "is there twice");
+        }
+        *flags[i] = 1;
+        pass(line, word);
+    }
+    return true;
+}
+
+/* ---- the kinds of lines ---- */
+
+static inline bool take_leg(struct line *line, struct request *request, size_t leg) {
+    int64_t count;
+    if (leg == LEGS_READ) {
+        return fault(line, next_field(line), "order", "has more than 100 legs");
+    }
+    if (!take_count(line, &count) ||
+        !take_series(line, request->symbols + leg * OPC_SYMBOL_LENGTH)) {
+        return false;
+    }
+    opc_write_count(count, request->counts + leg * OPC_COUNT_LENGTH);
+    return true;
+}
+
+/* Legs up to the first word or the line's end: none, if that comes at once. */
+static inline bool take_legs(struct line *line, struct request *request, size_t *len) {
+    struct field next = next_field(line);
+    *len = 0;
+    if (next.len == 0 || (next.text[0] >= 'a' && next.text[0] <= 'z')) {
+        return true;
+    }
+    while (take_leg(line, request, *len)) {
+        (*len)++;
+        next = next_field(line);
+        if (!is(next, ";")) {
+            return true;
+        }
+        pass(line, next);
+    }
+    return false;
+}
+
+static inline bool read_order(struct line *line, struct request *request) {
+    static const char *const words[] = {"market", "stop", "manual", "opening"};
+    struct opc_order *order = &request->order;
+    uint64_t *const flags[] = {&order->kind, &order->stop, &order->manual, &order->opening};
+    size_t legs;
+    *order = (struct opc_order){.kind = OPC_KIND_LIMIT};
+    if (!take_price(line, &order->price) || !take_legs(line, request, &legs) ||
+        !take_words(line, words, flags, COUNT(words))) {
+        return false;
+    }
+    order->symbols = request->symbols;
+    order->symbols_len = legs * OPC_SYMBOL_LENGTH;
+    order->counts = request->counts;
+    order->counts_len = legs * OPC_COUNT_LENGTH;
+    return true;
+}
+
+static inline bool read_quote(struct line *line, struct request *request) {
+    static const char *const words[] = {"resting"};
+    struct opc_quote *quote = &request->quote;
+    uint64_t *const flags[] = {&quote->resting};
+    *quote = (struct opc_quote){.symbol = request->symbols, .symbol_len = OPC_SYMBOL_LENGTH};
+    return take_series(line, request->symbols) && take_dollars(line, "bid", &quote->bid) &&
+           take_dollars(line, "offer", &quote->offer) &&
+           take_words(line, words, flags, COUNT(words));
+}
+
+/* Gives what is wrong with the value, or NULL. */
+static inline const char *read_value(struct field text, enum unit unit, uint64_t *value) {
+    bool has_point = memchr(text.text, '.', text.len) != NULL;
+    const char *trouble =
+        unit == UNIT_MONEY && has_point ? read_dollars(text, value) : read_whole(text, value);
+    return trouble == NULL || trouble == too_large ? trouble : unit_troubles[unit];
+}
+
+/* The field of settings or market with that name, which the line has not named before. */
+static inline bool read_name(struct line *line, struct field name, struct request *request) {
+    size_t i = 0;
+    while (i < COUNT(settables) && !is(name, settables[i].name)) {
+        i++;
+    }
+    if (i == COUNT(settables)) {
+        return fault(line, name, "name", "is no field of settings or market");
+    }
+    for (size_t k = 0; k < request->set_len; k++) {
+        if (request->set[k] == &settables[i]) {
+            return fault(line, name, settables[i].name, "is there twice");
+        }
+    }
+    request->set[request->set_len++] = &settables[i];
+    return true;
+}
+
+static inline bool take_setting(struct line *line, struct request *request) {
+    struct field field;
+    uint64_t value;
+    if (!take(line, "setting", &field)) {
+        return false;
+    }
+    const char *equals = memchr(field.text, '=', field.len);
+    if (equals == NULL) {
+        return fault(line, field, "setting", "is not name=value");
+    }
+    struct field name = {field.text, (size_t)(equals - field.text)};
+    struct field text = without(field, name.len + 1);
+    if (!read_name(line, name, request)) {
+        return false;
+    }
+    const struct settable *settable = request->set[request->set_len - 1];
+    const char *trouble = read_value(text, settable->unit, &value);
+    if (trouble != NULL) {
+        return fault(line, text, "value", trouble);
+    }
+    put_value(&request->terms, settable, value);
+    return true;
+}
+
+static inline bool read_set(struct line *line, struct request *request) {
+    request->set_len = 0;
+    do {
+        if (!take_setting(line, request)) {
+            return false;
+        }
+    } while (next_field(line).len > 0);
+    return true;
+}
+
+static inline bool read_reset(struct line *line, struct request *request) {
+    request->terms = first_terms;
+    return is_at_end(line);
+}
+
+static inline bool read_show(struct line *line, struct request *request) {
+    (void)request;
+    return is_at_end(line);
+}
+
+/*
+ * Reads a line, where these are the terms before it. False where it cannot be read: then the line
+ * has the fault, and the request holds nothing to be used.
+ */
+static inline bool read_request(struct line *line, const struct terms *now,
+                                struct request *request) {
+    static const struct {
+        const char *word;
+        enum request_kind kind;
+        bool (*read)(struct line *line, struct request *request);
+    } kinds[] = {
+        {"order", REQUEST_ORDER, read_order}, {"quote", REQUEST_QUOTE, read_quote},
+        {"set", REQUEST_SET, read_set},       {"reset", REQUEST_RESET, read_reset},
+        {"show", REQUEST_SHOW, read_show},
+    };
+    request->kind = REQUEST_NOTHING;
+    request->terms = *now;
+    if (!is_text(line)) {
+        return false;
+    }
+    struct field word = next_field(line);
+    if (word.len == 0) {
+        return true;
+    }
+    pass(line, word);
+    for (size_t i = 0; i < COUNT(kinds); i++) {
+        if (is(word, kinds[i].word)) {
+            request->kind = kinds[i].kind;
+            return kinds[i].read(line, request);
+        }
+    }
+    return fault(line, word, "line", "begins with none of order, quote, set, reset, show");
+}
+
+#endif
