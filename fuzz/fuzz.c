@@ -26,7 +26,8 @@ static const char *const entry_names[ENTRIES] = {"opc_read_symbol", "opc_write_s
 #define PAIRINGS 16
 
 /* Each number has its place among so many. */
-#define ROW(name, number, outcome, author, word, meaning) static_assert(number < NUMBERS, #name);
+#define ROW(name, number, outcome, author, word, meaning)                                          \
+    OPC_STATIC_ASSERT(number < NUMBERS, #name);
 OPC_NUMBERS(ROW)
 #undef ROW
 

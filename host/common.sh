@@ -108,8 +108,9 @@ compile() {
     cc $warnings "$@" "$source" "$library" -o "$output"
 }
 
-# Under another name first: so a program is whole at any time, whoever runs it.
+# The program is compiled under another name first: so it is whole at any time, whoever runs it.
 renew() {
+    prove
     if program_is_current "$1"; then # another built it
         return
     fi
@@ -119,6 +120,8 @@ renew() {
 
 # build NAME: host/NAME.c with the library, to target/host/NAME, unless both are as new as their sources.
 build() {
-    build_library
-    program_is_current "$1" || in_turn renew "$1"
+    if library_is_current && program_is_current "$1"; then
+        return
+    fi
+    in_turn renew "$1"
 }

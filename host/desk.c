@@ -45,17 +45,60 @@ static uint64_t number_in(const struct terms *terms) {
     return opc_answer_quote(&quote, &terms->settings, &terms->market).number;
 }
 
-/* Whether the field, with all others as at the start, gets the number. */
-static bool is_outside(const struct terms *terms, const struct settable *settable,
-                       uint64_t number) {
+/* Whether the field at this value, with all others as at the start, gets the number. */
+static bool is_outside(const struct settable *settable, uint64_t value, uint64_t number) {
     struct terms asked = first_terms;
-    uint64_t value = value_of(terms, settable);
     put_value(&asked, settable, value);
     /* It is held to the maximum too, which by itself may be any that goes with it. */
     if (settable->place == offsetof(struct terms, settings.preset_minimum)) {
         asked.settings.preset_maximum = value;
     }
     return number_in(&asked) == number;
+}
+
+/* The last value without the number, between one that does not get it and one that does. */
+static uint64_t last_within(const struct settable *settable, uint64_t within, uint64_t outside,
+                            uint64_t number) {
+    while ((outside > within ? outside - within : within - outside) > 1) {
+        uint64_t middle = within / 2 + outside / 2 + (within & outside & 1);
+        if (is_outside(settable, middle, number)) {
+            outside = middle;
+        } else {
+            within = middle;
+        }
+    }
+    return within;
+}
+
+/* As `set` takes it. */
+static void print_value(enum unit unit, uint64_t value) {
+    if (unit == UNIT_MONEY) {
+        printf("%" PRIu64 ".%03" PRIu64, value / 1000, value % 1000);
+    } else {
+        printf("%" PRIu64, value);
+    }
+}
+
+/* What stands after a value, of one and of another; of a switch and a phase nothing. */
+static const struct {
+    const char *one, *other;
+} unit_names[] = {
+    [UNIT_MONEY] = {" dollars", " dollars"},
+    [UNIT_TICKS] = {" tick", " ticks"},
+    [UNIT_SWITCH] = {"", ""},
+    [UNIT_HUNDREDTHS] = {" hundredth of a percent", " hundredths of a percent"},
+    [UNIT_PHASE] = {"", ""},
+};
+
+/* The limits that the library has for the field, asked by halving from its value at the start. */
+static void print_limits(const struct settable *settable, uint64_t number) {
+    uint64_t within = value_of(&first_terms, settable);
+    bool is_from_0 = !is_outside(settable, 0, number);
+    printf("%s is outside its limits, ", settable->name);
+    print_value(settable->unit, is_from_0 ? 0 : last_within(settable, within, 0, number));
+    printf(" to ");
+    print_value(settable->unit, last_within(settable, within, UINT64_MAX, number));
+    printf("%s", unit_names[settable->unit].other);
 }
 
 /* Whether the presets get the number as they are, and would not with their values exchanged. */
@@ -75,20 +118,20 @@ static bool do_presets_cross(const struct terms *terms, uint64_t number) {
 static bool print_fields_at_fault(const struct terms *terms, uint64_t number) {
     const char *between = "";
     for (size_t i = 0; i < COUNT(settables); i++) {
-        if (is_outside(terms, &settables[i], number)) {
-            printf("%s%s is outside its limits", between, settables[i].name);
-            between = ", ";
+        if (is_outside(&settables[i], value_of(terms, &settables[i]), number)) {
+            printf("%s", between);
+            print_limits(&settables[i], number);
+            between = "; ";
         }
     }
     if (do_presets_cross(terms, number)) {
         printf("%spreset_minimum is above preset_maximum", between);
-        between = ", ";
+        between = "; ";
     }
     return between[0] != '\0';
 }
 
-/* The number, its outcome, and for a refusal whose fault it is; of the terms it names the fields.
- */
+/* The number, its outcome, and for a refusal whose fault it is; of the terms it names fields. */
 static void print_verdict(uint64_t number, const struct terms *terms) {
     const struct number_row *row = row_of(number);
     enum opc_outcome outcome = opc_outcome_of(number);
@@ -273,10 +316,6 @@ static void answer_quote(struct desk *desk, const struct opc_quote *quote) {
 
 /* ---- settings and market ---- */
 
-static void print_dollars(uint64_t mills) {
-    printf("%" PRIu64 ".%03" PRIu64, mills / 1000, mills % 1000);
-}
-
 /* A value with its unit, as it was understood. */
 static void print_understood(enum unit unit, uint64_t value) {
     static const char *const phases[] = {
@@ -284,20 +323,14 @@ static void print_understood(enum unit unit, uint64_t value) {
         [OPC_PHASE_OPEN] = "open",
         [OPC_PHASE_HALT] = "halt",
     };
+    print_value(unit, value);
+    printf("%s", value == 1 ? unit_names[unit].one : unit_names[unit].other);
     if (unit == UNIT_MONEY) {
-        print_dollars(value);
-        printf(" dollars (%" PRIu64 " mills)", value);
-        return;
-    }
-    printf("%" PRIu64, value);
-    if (unit == UNIT_TICKS) {
-        printf(" ticks");
-    } else if (unit == UNIT_HUNDREDTHS) {
-        printf(" hundredths of a percent");
-    } else {
-        printf(" (%s)", unit == UNIT_PHASE ? name_in(phases, COUNT(phases), value)
-                        : value == 0       ? "no"
-                                           : "yes");
+        printf(" (%" PRIu64 " %s)", value, value == 1 ? "mill" : "mills");
+    } else if (unit == UNIT_PHASE) {
+        printf(" (%s)", name_in(phases, COUNT(phases), value));
+    } else if (unit == UNIT_SWITCH) {
+        printf(" (%s)", value == 0 ? "no" : "yes");
     }
 }
 
@@ -334,11 +367,7 @@ static void answer_show(const struct desk *desk) {
                    i == 0 ? "settings" : "market");
         }
         printf(" %s=", settable->name);
-        if (settable->unit == UNIT_MONEY) {
-            print_dollars(value);
-        } else {
-            printf("%" PRIu64, value);
-        }
+        print_value(settable->unit, value);
     }
     printf("\n");
 }

@@ -130,6 +130,7 @@ static inline bool is_at_end(struct line *line) {
 /* ---- numbers, exact: they are read whole, or not at all ---- */
 
 static const char too_large[] = "is too large to be read";
+static const char more_decimals[] = "has more than three decimals";
 
 static inline struct field without(struct field field, size_t first) {
     return (struct field){field.text + first, field.len - first};
@@ -175,7 +176,7 @@ static inline const char *read_dollars(struct field field, uint64_t *mills) {
         }
     }
     if (decimals > 3) {
-        return "has more than three decimals";
+        return more_decimals;
     }
     struct field zeros = {"000", 3 - decimals};
     read_digits(zeros, mills, &fits);

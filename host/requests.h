@@ -81,8 +81,8 @@ static const struct settable settables[] = {
 #undef SETTING
 #undef MARKET
 
-static_assert(COUNT(settables) * sizeof(uint64_t) == sizeof(struct terms),
-              "every field of settings and market can be set");
+OPC_STATIC_ASSERT(COUNT(settables) * sizeof(uint64_t) == sizeof(struct terms),
+                  "every field of settings and market can be set");
 
 static inline uint64_t value_of(const struct terms *terms, const struct settable *settable) {
     uint64_t value;
@@ -325,7 +325,8 @@ static inline const char *read_value(struct field text, enum unit unit, uint64_t
     bool has_point = memchr(text.text, '.', text.len) != NULL;
     const char *trouble =
         unit == UNIT_MONEY && has_point ? read_dollars(text, value) : read_whole(text, value);
-    return trouble == NULL || trouble == too_large ? trouble : unit_troubles[unit];
+    bool is_told = trouble == NULL || trouble == too_large || trouble == more_decimals;
+    return is_told ? trouble : unit_troubles[unit];
 }
 
 /* The field of settings or market with that name, which the line has not named before. */

@@ -14,16 +14,27 @@
  * the number of numbers; a pointer to a lent number is valid and never NULL; the lent numbers of
  * one call are distinct and share no memory with its slices or its buffer. So too an inline
  * function, whose pointers to structs are valid and never NULL.
+ *
+ * For C11 or C++11, on x86-64; of the C library it needs no more than a freestanding one has.
  */
 #ifndef OPTION_PRICE_CHECK_H
 #define OPTION_PRICE_CHECK_H
 
-#include <assert.h> /* static_assert, before C23 */
 #include <stddef.h>
 #include <stdint.h>
 
+/* The entries are called as System V has it, whatever the convention of the host's compiler. */
+#ifdef __GNUC__
+#define OPC_CALL __attribute__((sysv_abi))
+#else
+#define OPC_CALL
+#endif
+
 #ifdef __cplusplus
+#define OPC_STATIC_ASSERT static_assert
 extern "C" {
+#else
+#define OPC_STATIC_ASSERT _Static_assert
 #endif
 
 /* Of this face: one more with each change of an entry, a struct, a number or a limit. */
@@ -147,8 +158,9 @@ static inline uint64_t opc_root(const char *letters) {
  * The six lent numbers are set to the parts, with the limits given at struct opc_symbol_parts, or
  * all to 0 on a refusal.
  */
-uint64_t opc_read_symbol(const uint8_t *symbol, size_t symbol_len, uint64_t *root, uint64_t *year,
-                         uint64_t *month, uint64_t *day, uint64_t *option_type, uint64_t *strike);
+uint64_t OPC_CALL opc_read_symbol(const uint8_t *symbol, size_t symbol_len, uint64_t *root,
+                                  uint64_t *year, uint64_t *month, uint64_t *day,
+                                  uint64_t *option_type, uint64_t *strike);
 
 /*
  * Writes a symbol into the first 21 bytes of out.
@@ -161,9 +173,9 @@ uint64_t opc_read_symbol(const uint8_t *symbol, size_t symbol_len, uint64_t *roo
  * Returns the length of the part written: 21, where the bytes of out after it keep their values, or
  * 0 on a refusal, where every byte of out does.
  */
-uint64_t opc_write_symbol(uint64_t root, uint64_t year, uint64_t month, uint64_t day,
-                          uint64_t option_type, uint64_t strike, uint8_t *out, size_t out_len,
-                          uint64_t *number);
+uint64_t OPC_CALL opc_write_symbol(uint64_t root, uint64_t year, uint64_t month, uint64_t day,
+                                   uint64_t option_type, uint64_t strike, uint8_t *out,
+                                   size_t out_len, uint64_t *number);
 
 /* opc_read_symbol, with the parts in a struct: every field is set on every call. */
 static inline uint64_t opc_read_symbol_parts(const uint8_t *symbol, size_t symbol_len,
@@ -261,7 +273,8 @@ struct opc_settings {
 };
 
 /* Numbers alone: a pointer to the struct is one to the slice. So too the market. */
-static_assert(sizeof(struct opc_settings) == OPC_SETTINGS_COUNT * sizeof(uint64_t), "the slice");
+OPC_STATIC_ASSERT(sizeof(struct opc_settings) == OPC_SETTINGS_COUNT * sizeof(uint64_t),
+                  "the slice");
 
 /* The settings of document 01's examples. In C++ such an initializer needs C++20. */
 #define OPC_EXAMPLE_SETTINGS                                                                       \
@@ -293,7 +306,7 @@ struct opc_market {
     uint64_t previous_close;
 };
 
-static_assert(sizeof(struct opc_market) == OPC_MARKET_COUNT * sizeof(uint64_t), "the slice");
+OPC_STATIC_ASSERT(sizeof(struct opc_market) == OPC_MARKET_COUNT * sizeof(uint64_t), "the slice");
 
 /* An open market with every value missing. In C++ such an initializer needs C++20. */
 #define OPC_EMPTY_MARKET                                                                           \
@@ -364,11 +377,11 @@ struct opc_answer {
  * is accepted or rejected by a check, and to 0 where it is refused. The sequence of the legs does
  * not matter to any of the four.
  */
-uint64_t opc_check_order(const uint8_t *symbols, size_t symbols_len, const uint8_t *counts,
-                         size_t counts_len, int64_t price, uint64_t kind, uint64_t stop,
-                         uint64_t manual, uint64_t opening, const uint64_t *settings,
-                         size_t settings_len, const uint64_t *market, size_t market_len,
-                         uint64_t *class_, uint64_t *shape, uint64_t *pairings);
+uint64_t OPC_CALL opc_check_order(const uint8_t *symbols, size_t symbols_len, const uint8_t *counts,
+                                  size_t counts_len, int64_t price, uint64_t kind, uint64_t stop,
+                                  uint64_t manual, uint64_t opening, const uint64_t *settings,
+                                  size_t settings_len, const uint64_t *market, size_t market_len,
+                                  uint64_t *class_, uint64_t *shape, uint64_t *pairings);
 
 /* opc_check_order, with order, settings, market and answer in structs. */
 static inline struct opc_answer opc_answer_order(const struct opc_order *order,
@@ -414,13 +427,14 @@ struct opc_tally {
  * they are as opc_check_order sets them; *seen is one more than it was, and so is *accepted,
  * *rejected or *refused, as opc_outcome_of says of the number.
  */
-uint64_t opc_check_order_tallied(const uint8_t *symbols, size_t symbols_len, const uint8_t *counts,
-                                 size_t counts_len, int64_t price, uint64_t kind, uint64_t stop,
-                                 uint64_t manual, uint64_t opening, const uint64_t *settings,
-                                 size_t settings_len, const uint64_t *market, size_t market_len,
-                                 uint64_t *class_, uint64_t *shape, uint64_t *pairings,
-                                 uint64_t *seen, uint64_t *refused, uint64_t *accepted,
-                                 uint64_t *rejected);
+uint64_t OPC_CALL opc_check_order_tallied(const uint8_t *symbols, size_t symbols_len,
+                                          const uint8_t *counts, size_t counts_len, int64_t price,
+                                          uint64_t kind, uint64_t stop, uint64_t manual,
+                                          uint64_t opening, const uint64_t *settings,
+                                          size_t settings_len, const uint64_t *market,
+                                          size_t market_len, uint64_t *class_, uint64_t *shape,
+                                          uint64_t *pairings, uint64_t *seen, uint64_t *refused,
+                                          uint64_t *accepted, uint64_t *rejected);
 
 /* opc_check_order_tallied, with order, settings, market, tally and answer in structs. */
 static inline struct opc_answer opc_answer_order_tallied(const struct opc_order *order,
@@ -487,9 +501,10 @@ struct opc_quote_answer {
  *
  * *cancel is set to 1 where a check rejects a quote with one resting, else to 0.
  */
-uint64_t opc_check_quote(const uint8_t *symbol, size_t symbol_len, uint64_t bid, uint64_t offer,
-                         uint64_t resting, const uint64_t *settings, size_t settings_len,
-                         const uint64_t *market, size_t market_len, uint64_t *cancel);
+uint64_t OPC_CALL opc_check_quote(const uint8_t *symbol, size_t symbol_len, uint64_t bid,
+                                  uint64_t offer, uint64_t resting, const uint64_t *settings,
+                                  size_t settings_len, const uint64_t *market, size_t market_len,
+                                  uint64_t *cancel);
 
 /* opc_check_quote, with quote, settings, market and answer in structs. */
 static inline struct opc_quote_answer opc_answer_quote(const struct opc_quote *quote,

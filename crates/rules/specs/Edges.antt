@@ -98,9 +98,13 @@ shapes =
     -- a butterfly bought; none with the double one outside
     ∷ (plain (pos 5000) (calls (pos 1) 20 ∷ calls (minus 2) 30 ∷ calls (pos 1) 40 ∷ []), answers 0 1 2 2)
     ∷ (plain (pos 5000) (calls (pos 2) 20 ∷ calls (minus 1) 30 ∷ calls (minus 1) 40 ∷ []), answers 0 1 0 2)
-    -- a box bought; none with call and put of a strike on one side
+    -- skewed, the middle bought, of calls below halfway, of puts above: no class of its own
+    ∷ (plain (pos 5000) (calls (minus 1) 20 ∷ calls (pos 2) 30 ∷ calls (minus 1) 45 ∷ []), answers 0 0 3 2)
+    ∷ (plain (pos 5000) (puts (minus 1) 15 ∷ puts (pos 2) 30 ∷ puts (minus 1) 40 ∷ []), answers 0 0 3 2)
+    -- a box bought; none with call and put of a strike on one side, nor with both calls on one side
     ∷ (plain (pos 24000) (calls (pos 1) 20 ∷ calls (minus 1) 45 ∷ puts (minus 1) 20 ∷ puts (pos 1) 45 ∷ []), answers 0 1 4 2)
     ∷ (plain (pos 24000) (calls (pos 1) 20 ∷ calls (minus 1) 45 ∷ puts (pos 1) 20 ∷ puts (minus 1) 45 ∷ []), answers 0 0 0 2)
+    ∷ (plain (pos 24000) (calls (pos 1) 20 ∷ calls (pos 1) 45 ∷ puts (minus 1) 20 ∷ puts (minus 1) 45 ∷ []), answers 0 0 0 0)
     -- sixteen legs: each sell meets the buy below it
     ∷ (plain (pos 1000) (many 16 (pos 3) (minus 3)), answers 0 1 0 8)
     -- one leg
