@@ -23,11 +23,16 @@
 #include <stddef.h>
 #include <stdint.h>
 
-/* The entries are called as System V has it, whatever the convention of the host's compiler. */
-#ifdef __GNUC__
+/*
+ * The entries are called as System V has it. A compiler whose own convention is another has to be
+ * told: here for Windows, elsewhere by the host, with -DOPC_CALL='__attribute__((sysv_abi))'.
+ */
+#ifndef OPC_CALL
+#ifdef _WIN32
 #define OPC_CALL __attribute__((sysv_abi))
 #else
 #define OPC_CALL
+#endif
 #endif
 
 #ifdef __cplusplus
