@@ -28,12 +28,13 @@ typedef void hold_case(const struct request *request, const char *answer);
 /* What stands after "#=" and a blank. */
 static inline void answer_of(const struct line *line, char answer[LINE_LENGTH]) {
     static const char mark[] = "#= ";
+    const size_t mark_len = strlen(mark);
     size_t at = 0;
-    while (at < line->len && strncmp(line->text + at, mark, strlen(mark)) != 0) {
+    while (at + mark_len < line->len && memcmp(line->text + at, mark, mark_len) != 0) {
         at++;
     }
+    at += mark_len;
     expect(at < line->len, "a case without its answer");
-    at += strlen(mark);
     memcpy(answer, line->text + at, line->len - at);
     answer[line->len - at] = '\0';
 }

@@ -78,16 +78,10 @@ static struct opc_answer answer(const struct made_order *made) {
     return raw;
 }
 
-static void expect_answer(const struct made_order *made, struct opc_answer expected) {
-    struct opc_answer a = answer(made);
-    expect(a.number == expected.number, "another number than expected");
-    expect(a.class_ == expected.class_, "another class than expected");
-    expect(a.shape == expected.shape, "another shape than expected");
-    expect(a.pairings == expected.pairings, "another number of pairings than expected");
-}
-
 static void expect_refused(const struct made_order *made, uint64_t number) {
-    expect_answer(made, (struct opc_answer){number, 0, 0, 0});
+    const struct opc_answer refused = {number, 0, 0, 0};
+    struct opc_answer a = answer(made);
+    expect(same_answer(&a, &refused), "another answer than this refusal");
 }
 
 /* One call bought, at 20 dollars for 1 dollar: accepted. */
@@ -107,7 +101,7 @@ static struct made_order vertical(int64_t price) {
     return m;
 }
 
-static struct made_order made_of(const struct request *r) {
+static struct made_order order_of(const struct request *r) {
     struct made_order m = no_legs();
     expect(r->order.counts_len <= sizeof m.counts, "a case of more legs than can be made");
     memcpy(m.symbols, r->order.symbols, r->order.symbols_len);
@@ -137,7 +131,7 @@ static void expect_words(const struct made_order *made, const char *words) {
 
 /* As it is; with the legs in another sequence, and with other values for each yes. */
 static void hold_order(const struct request *request, const char *words) {
-    struct made_order m = made_of(request);
+    struct made_order m = order_of(request);
     expect_words(&m, words);
     shuffle_legs(&m);
     expect_words(&m, words);
