@@ -239,7 +239,7 @@ static inline void put_legs(struct call *call, const char *root, const struct sh
 static inline void damage_legs(struct input *in, struct call *call) {
     static const int64_t counts[] = {0, 10001, -10001, INT64_MIN, INT64_MAX, 10000, -10000, 65537};
     size_t n = call->counts_len / OPC_COUNT_LENGTH;
-    uint8_t kind = take(in) % 8;
+    uint8_t kind = take(in) % 9;
     size_t leg = n == 0 ? 0 : take(in) % n;
     uint8_t *symbol = call->symbols + leg * OPC_SYMBOL_LENGTH;
     if (kind < 2 && n > 0) {
@@ -251,6 +251,8 @@ static inline void damage_legs(struct input *in, struct call *call) {
     } else if (kind == 5) {
         symbol[1] = symbol[1] == 'B' ? 'C' : 'B'; /* perhaps another root */
     } else if (kind == 6) {
+        memset(symbol, take(in), 6); /* one byte for a root */
+    } else if (kind == 7) {
         call->symbols_len = (call->symbols_len + take(in)) % MOST_SYMBOL_BYTES;
     } else {
         call->counts_len = (call->counts_len + take(in)) % MOST_COUNT_BYTES;

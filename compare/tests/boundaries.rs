@@ -142,6 +142,29 @@ fn symbols() {
     run.finish(&[0, 4, 6, 7], 2 * 63 * 256);
 }
 
+/// Roots of one byte six times, in one leg, in two, or in all three.
+#[test]
+fn roots_of_one_byte() {
+    let mut run = Run::new("roots of one byte");
+    let mut order = undetermined();
+    order.settings[CHECK_20..=CHECK_26].fill(0);
+    for byte in 0..=u8::MAX {
+        for legs in 1..8 {
+            let mut arrival = order.clone();
+            for leg in (0..3).filter(|leg| legs >> leg & 1 == 1) {
+                arrival.symbols[21 * leg..21 * leg + 6].fill(byte);
+            }
+            let number = match (byte, legs) {
+                (b'A'..=b'Z', 7) => 0,
+                (b'A'..=b'Z', _) => 7,
+                _ => 4,
+            };
+            hold(&mut run, &arrival, number);
+        }
+    }
+    run.finish(&[0, 4, 7], 7 * 256);
+}
+
 /// Faults that can be made one on top of the other.
 fn faults() -> [Fault<Arrival>; 9] {
     [

@@ -2,46 +2,54 @@
 use choice::both;
 use choice::choose;
 use choice::either;
-use rules::Legs;
+use keys::is_bought;
 use rules::Price;
 use rules::Settings;
 use rules::Terms;
 use terms::is_negative;
 use terms::is_positive;
 ghost use mathlib.Core.Path.{_≡_};
-ghost use mathlib.Core.Bool.{true};
-ghost use Prim.Native.Nat.{_≤_};
+ghost use mathlib.Core.List.{List};
+ghost use mathlib.Core.Bool.{true, false};
+ghost use Prim.Native.Nat.{ℕ, _≤_};
+ghost use lib.ListN.{length, take};
 ghost use Rattle.rules.specs.Lists.{sameBool, all, All};
-ghost use Rattle.rules.specs.Order.{legsIn};
 ghost use Rattle.rules.specs.Checks.{sizes, isBelow, buyBuy};
-ghost use Rattle.rules.specs.Valid.{UnitWithin, ComplexOrder};
+ghost use Rattle.rules.specs.Valid.{ComplexOrder};
+ghost use Rattle.keys.specs.Tags.{legsIn};
 
 // Every leg is on this side: bought, or sold.
-fn all_on(us: Legs, side: bool) -> bool
-    requires { ⌜ us .len ≤ 16 ⌝ }
-    ensures { λ r. ⌜ r ≡ all (λ u. sameBool side (u .bought)) (legsIn us) ⌝ }
+fn all_on(tags: &[u64; 16], n: usize, side: bool) -> bool
+    requires { ⌜ (n ≤ 16) × (length (now tags) ≡ 16) ⌝ }
+    ensures { λ r.
+        ⌜
+        ((root : ℕ) (units : List ℕ) → length units ≡ 16
+        → r ≡ all (λ u. sameBool side (u .bought)) (legsIn root false n (now (tags .entry)) units))
+        ⌝ }
 {
-    let n = us.len;
-    let mut r = true;
     let mut i = 0;
     while i < n {
-        r = both(r, side == us.legs[i].bought);
+        if is_bought(tags[i]) != side {
+            return false;
+        }
         i += 1;
     }
-    r
+    true
 }
 
 // The sum of unit count sizes.
-fn sizes(us: Legs) -> u64
-    requires { ⌜ (us .len ≤ 16) × All UnitWithin (legsIn us) ⌝ }
-    ensures { λ r. ⌜ (r ≡ sizes (legsIn us)) × (r ≤ 160000) ⌝ }
+fn sizes(units: &[u64; 16], n: usize) -> u64
+    requires { ⌜ (n ≤ 16) × (length (now units) ≡ 16) × All (λ s. s ≤ 10000) (take n (now units)) ⌝ }
+    ensures { λ r.
+        ⌜
+        ((root : ℕ) (tags : List ℕ) → length tags ≡ 16 → r ≡ sizes (legsIn root false n tags (now (units .entry))))
+        × (r ≤ 160000)
+        ⌝ }
 {
-    let n = us.len;
     let mut sum = 0;
     let mut i = 0;
     while i < n {
-        let size = us.legs[i].size;
-        sum += size;
+        sum += units[i];
         i += 1;
     }
     sum
@@ -56,14 +64,19 @@ fn is_below(bought: bool, p: Price, n: u64) -> bool
     either(choose(bought, negative, positive), p.size.0 < n)
 }
 
-// Check 22. Legs that are all of one side are of the first leg's.
-pub fn buy_buy(st: Settings, t: Terms, us: Legs) -> bool
-    requires { ⌜ ComplexOrder st t us ⌝ }
-    ensures { λ r. ⌜ r ≡ buyBuy st t (legsIn us) ⌝ }
+// Check 22. Legs that are all of one side are of the first leg's. No check asks for the legs' root.
+pub fn buy_buy(st: Settings, t: Terms, tags: &[u64; 16], units: &[u64; 16], n: usize) -> bool
+    requires { ⌜
+        (n ≤ 16)
+        × (length (now tags) ≡ 16)
+        × (length (now units) ≡ 16)
+        × ComplexOrder st t (legsIn 0 false n (now tags) (now units))
+        ⌝ }
+    ensures { λ r. ⌜ ((root : ℕ) → r ≡ buyBuy st t (legsIn root false n (now (tags .entry)) (now (units .entry)))) ⌝ }
 {
-    let side = us.legs[0].bought;
-    if both(t.kind == 0, all_on(us, side)) {
-        return is_below(side, t.price, sizes(us) * st.increment.0);
+    let side = is_bought(tags[0]);
+    if both(t.kind == 0, all_on(tags, n, side)) {
+        return is_below(side, t.price, sizes(units, n) * st.increment.0);
     }
     false
 }

@@ -1,12 +1,12 @@
 -- Lists of tests, the first taken off.
-use mathlib.Core.Path.{_≡_, refl, sym, _∙_}
-use mathlib.Core.List.{List, [], _∷_}
+use mathlib.Core.Path.{_≡_, refl, sym, ap, _∙_}
+use mathlib.Core.List.{List, [], _∷_, _++_}
 use mathlib.Core.Bool.{Bool, true, false, cond, _&&_}
 use Prim.Native.Nat.{ℕ, zero, suc}
 use native.Mathlib.Omega.{arith}
 use lib.Dec.{eqb}
 use borrow.Author.Tests.{ne-eqb}
-use Rattle.rules.specs.Lists.{every}
+use Rattle.rules.specs.Lists.{All, every}
 use Rattle.rules.specs.Numbers.{firstOf}
 use Rattle.rules.proofs.Tests.{and-true}
 use Rattle.chain.specs.Chain.{after, IsSome}
@@ -31,6 +31,26 @@ pub chained : (r : ℕ) (es : List (Bool × ℕ)) → after 0 es ≡ after r [] 
 unfolding after firstOf
 chained zero es e = sym e
 chained (suc r) es e = sym e
+
+-- a list of tests that goes on, from the number that its first part gave
+pub goes-on : (es fs : List (Bool × ℕ)) → All (λ e. IsSome (e .1)) es → after 0 (es ++ fs) ≡ after (firstOf es) fs
+unfolding after firstOf
+goes-on [] fs h = refl
+goes-on ((true, zero) ∷ es) fs h = absurd (h .0)
+goes-on ((true, suc n) ∷ es) fs h = refl
+goes-on ((false, n) ∷ es) fs h = goes-on es fs (h .1)
+
+-- tests count only where no number was found
+pub only-then : (found : ℕ) (es fs : List (Bool × ℕ)) → (found ≡ 0 → es ≡ fs) → after found es ≡ after found fs
+unfolding after
+only-then zero es fs h = ap firstOf (h refl)
+only-then (suc found) es fs h = refl
+
+-- where no number is found, none was, and no test applies
+pub none-found : (found : ℕ) (es : List (Bool × ℕ)) → after found es ≡ after 0 [] → (found ≡ 0) × (firstOf es ≡ 0)
+unfolding after firstOf
+none-found zero es e = (refl, e)
+none-found (suc found) es e = absurd (omega arith)
 
 -- ---- whether every test holds
 

@@ -1,8 +1,8 @@
 -- Checks 23 and 24, test for test, and the checks of simple orders.
-use mathlib.Core.Path.{_≡_, refl}
-use mathlib.Core.List.{List, [], _∷_}
-use mathlib.Core.Bool.{Bool, true, false, not, _&&_, _||_}
-use Prim.Native.Nat.{ℕ, _+_, _-_, _*_, _≤_}
+use mathlib.Core.Path.{_≡_, refl, sym, ap, _∙_}
+use mathlib.Core.List.{List, [], _∷_, map, zipWith}
+use mathlib.Core.Bool.{Bool, true, false, cond, not, _&&_, _||_}
+use Prim.Native.Nat.{ℕ, zero, suc, _+_, _-_, _*_, _/_, _%_, _≤_}
 use native.Mathlib.Omega.{arith}
 use native.Mathlib.Nat.{mul-le-mul}
 use lib.Dec.{eqb, ltb}
@@ -14,11 +14,11 @@ use Rattle.rules.specs.declared.Settings.{Settings}
 use Rattle.rules.specs.declared.Market.{Market}
 use Rattle.rules.specs.Lists.{All, every}
 use Rattle.rules.specs.Order.{isSimple, isComplex}
-use Rattle.rules.specs.Class.{shapeOf}
+use Rattle.rules.specs.Class.{strikeOf, isVertical, isButterfly, isBox, shapeOf}
 use Rattle.rules.specs.Checks.{isPositive, isNegative, simpleBuy, debitCredit, maximumOf, allowance, hasMaximum, maximumValue}
 use Rattle.rules.specs.Market.{tickDistance}
 use Rattle.rules.proofs.Tests.{and-no, not-eq}
-use Rattle.rules.specs.Valid.{UnitWithin}
+use Rattle.keys.specs.Tags.{seriesAt, legAt, legsIn}
 
 -- ---- check 23
 
@@ -47,13 +47,33 @@ debit-credit-read t class n p f d c r us h = cc (debit-grouped (eqb (t .kind) 0)
 pub share-bound : (m percentage : ℕ) → m ≤ 99999999 → percentage ≤ 10000 → m * percentage ≤ 999999990000
 share-bound m percentage h k = omega (arith, mul-le-mul h k)
 
-pub maximum-bound : (ls : List Leg) → All UnitWithin ls → maximumOf ls ≤ 99999999
+-- a tag's strike has at most eight digits
+pub strike-bound : (root tag size : ℕ) → strikeOf (legAt root false tag size) ≤ 99999999
+unfolding seriesAt
+strike-bound root tag size = go (eqb (tag / 2 / 10000000000000000) 1)
+  where
+    go : (c : Bool) → cond c (99999999 - tag / 2 % 100000000) (tag / 2 % 100000000) ≤ 99999999
+    go true = omega arith
+    go false = omega arith
+
+-- so has M, which is at most one of the strikes
+maximum-least : (ls : List Leg) → All (λ l. strikeOf l ≤ 99999999) ls → maximumOf ls ≤ 99999999
 unfolding maximumOf
-maximum-bound [] h = omega arith
-maximum-bound (a ∷ []) h = omega arith
-maximum-bound (a ∷ b ∷ []) h = let p = h .0 .strike in let q = h .1 .0 .strike in omega arith
-maximum-bound (a ∷ m ∷ b ∷ []) h = let q = h .1 .0 .strike in omega arith
-maximum-bound (p ∷ q ∷ d ∷ c ∷ r) h = let k = h .1 .1 .0 .strike in omega arith
+maximum-least [] h = omega arith
+maximum-least (a ∷ []) h = omega arith
+maximum-least (a ∷ b ∷ []) h = let p = h .0 in let q = h .1 .0 in omega arith
+maximum-least (a ∷ m ∷ b ∷ []) h = let q = h .1 .0 in omega arith
+maximum-least (p ∷ q ∷ d ∷ c ∷ r) h = let k = h .1 .1 .0 in omega arith
+
+strikes-bound : (root n : ℕ) (tags units : List ℕ) → All (λ l. strikeOf l ≤ 99999999) (legsIn root false n tags units)
+unfolding zipWith
+strikes-bound root zero tags units = tt
+strikes-bound root (suc n) [] units = tt
+strikes-bound root (suc n) (t ∷ tags) [] = tt
+strikes-bound root (suc n) (t ∷ tags) (u ∷ units) = (strike-bound root t u, strikes-bound root n tags units)
+
+pub maximum-bound : (root n : ℕ) (tags units : List ℕ) → maximumOf (legsIn root false n tags units) ≤ 99999999
+maximum-bound root n tags units = maximum-least (legsIn root false n tags units) (strikes-bound root n tags units)
 
 module _ (st : Settings) (t : Terms) (ls : List Leg) {shape : ℕ} {has : Bool} (e : shape ≡ shapeOf ls) (f : has ≡ hasMaximum shape) where
   pub maximum-tested : {m a : ℕ} → has ≡ true → m ≡ maximumOf ls → a ≡ allowance st m → ltb (m + a) (t .price .size .0) ≡ maximumValue st t ls
@@ -63,6 +83,29 @@ module _ (st : Settings) (t : Terms) (ls : List Leg) {shape : ℕ} {has : Bool} 
   pub maximum-untested : has ≡ false → false ≡ maximumValue st t ls
   unfolding maximumValue
   maximum-untested h = cc
+
+-- no shape looks at the legs' root
+abbrev rooted : ℕ → Leg → Leg
+rooted root l = record { root = root; series = l .series; bought = l .bought; size = l .size }
+
+legs-rooted : (root n : ℕ) (tags units : List ℕ) → legsIn root false n tags units ≡ map (rooted root) (legsIn 0 false n tags units)
+unfolding zipWith
+legs-rooted root zero tags units = refl
+legs-rooted root (suc n) [] units = refl
+legs-rooted root (suc n) (t ∷ tags) [] = refl
+legs-rooted root (suc n) (t ∷ tags) (u ∷ units) = ap (λ (ls : List Leg). legAt root false t u ∷ ls) (legs-rooted root n tags units)
+
+shape-rooted : (root : ℕ) (ls : List Leg) → shapeOf (map (rooted root) ls) ≡ shapeOf ls
+unfolding shapeOf isVertical isButterfly isBox
+shape-rooted root [] = refl
+shape-rooted root (a ∷ []) = refl
+shape-rooted root (a ∷ b ∷ []) = refl
+shape-rooted root (a ∷ b ∷ c ∷ []) = refl
+shape-rooted root (a ∷ b ∷ c ∷ d ∷ []) = refl
+shape-rooted root (a ∷ b ∷ c ∷ d ∷ e ∷ r) = refl
+
+pub shape-root : (root n : ℕ) (tags units : List ℕ) → shapeOf (legsIn 0 false n tags units) ≡ shapeOf (legsIn root false n tags units)
+shape-root root n tags units = sym (ap shapeOf (legs-rooted root n tags units) ∙ shape-rooted root _)
 
 -- ---- the checks of simple orders do not apply
 

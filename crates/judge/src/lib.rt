@@ -1,8 +1,7 @@
 // A valid order: its class, shape and pairings, and the first check that rejects it.
 use amounts::pick;
 use classify::classify;
-use rules::Leg;
-use rules::Legs;
+use keys::leg_at;
 use rules::Market;
 use rules::OrderAnswer;
 use rules::Settings;
@@ -10,57 +9,77 @@ use rules::Terms;
 use terms::is_simple;
 ghost use mathlib.Core.Path.{_≡_};
 ghost use mathlib.Core.List.{[], _∷_};
-ghost use mathlib.Core.Bool.{true};
-ghost use Prim.Native.Nat.{_≤_, _<_};
-ghost use Rattle.rules.specs.Order.{legsIn, isSimple, isComplex};
-ghost use Rattle.rules.specs.Pairing.{byStrike};
+ghost use mathlib.Core.Bool.{true, false};
+ghost use Prim.Native.Nat.{ℕ, _≤_};
+ghost use Rattle.rules.specs.declared.Market.{Market};
+ghost use Rattle.rules.specs.Order.{isSimple, isComplex};
 ghost use Rattle.rules.specs.Market.{settingsHold, marketHolds};
 ghost use Rattle.rules.specs.Numbers.{judged};
-ghost use Rattle.rules.specs.Valid.{ValidLegs};
+ghost use Rattle.keys.specs.Tags.{legAt, legsIn, ValidTags};
 
-// An order of one leg has nothing to sort, to divide or to pair.
-fn judge_simple(st: Settings, m: Market, t: Terms, x: Leg) -> OrderAnswer
-    requires { ⌜ (settingsHold st ≡ true) × (marketHolds m ≡ true) × (0 < x .size) × (isSimple t (x ∷ []) ≡ true) ⌝ }
-    ensures { λ r. ⌜ r ≡ judged st m t (byStrike (x ∷ [])) ⌝ }
+// An order of one leg has nothing to divide or to pair: one unit of it is judged, whatever its contracts.
+fn judge_simple(st: Settings, m: Market, t: Terms, tag: u64) -> OrderAnswer
+    requires { ⌜
+        (settingsHold st ≡ true)
+        × (marketHolds m ≡ true)
+        × (isSimple t (legAt 0 false tag 1 ∷ []) ≡ true)
+        ⌝ }
+    ensures { λ r. ⌜ ((root size : ℕ) → 1 ≤ size → r ≡ judged st m t (legAt root false tag size ∷ [])) ⌝ }
 {
-    let series = x.series;
-    let unit = Leg {
-        root: x.root,
-        series: series,
-        bought: x.bought,
-        size: 1,
-    };
+    let unit = leg_at(tag, 1);
     OrderAnswer {
         number: simple_checks::rejection(st, m, t, unit),
-        class: pick(x.bought, 1, 2),
+        class: pick(unit.bought, 1, 2),
         shape: 0,
         pairings: 0,
     }
 }
 
 // No check of a complex order asks for the market.
-fn judge_complex(st: Settings, t: Terms, l: Legs) -> OrderAnswer
-    requires { ⌜ (settingsHold st ≡ true) × ValidLegs l × (1 ≤ l .len) × (isComplex t (legsIn l) ≡ true) ⌝ }
-    ensures { λ r. ⌜ ((m : Market) → r ≡ judged st m t (byStrike (legsIn l))) ⌝ }
+fn judge_complex(
+    st: Settings,
+    t: Terms,
+    tags: &[u64; 16],
+    left: &mut [u64; 16],
+    n: usize,
+) -> OrderAnswer
+    requires { ⌜
+        (settingsHold st ≡ true)
+        × ValidTags n (now tags) (now left)
+        × (2 ≤ n)
+        × (isComplex t (legsIn 0 false n (now tags) (now left)) ≡ true)
+        ⌝ }
+    ensures { λ r.
+        ⌜
+        ((root : ℕ) (m : Market) → r ≡ judged st m t (legsIn root false n (now (tags .entry)) (now (left .entry))))
+        ⌝ }
 {
-    let c = classify(l, st.european != 0);
-    let us = c.units;
+    let mut units = [0u64; 16];
+    let c = classify(tags, left, n, st.european != 0, &mut units);
     OrderAnswer {
-        number: complex_checks::rejection(st, t, us, c.class, c.shape),
+        number: complex_checks::rejection(st, t, tags, &units, n, c.class, c.shape),
         class: c.class,
         shape: c.shape,
         pairings: c.pairings,
     }
 }
 
-// The legs may come in any sequence.
-pub fn judge(st: Settings, m: Market, t: Terms, l: Legs) -> OrderAnswer
-    requires { ⌜ (settingsHold st ≡ true) × (marketHolds m ≡ true) × ValidLegs l × (1 ≤ l .len) ⌝ }
-    ensures { λ r. ⌜ r ≡ judged st m t (byStrike (legsIn l)) ⌝ }
+// The legs come in the first walk's sequence; the walks take contracts off `left`. No check asks for the legs' root.
+pub fn judge(
+    st: Settings,
+    m: Market,
+    t: Terms,
+    tags: &[u64; 16],
+    left: &mut [u64; 16],
+    n: usize,
+) -> OrderAnswer
+    requires { ⌜
+        (settingsHold st ≡ true) × (marketHolds m ≡ true) × ValidTags n (now tags) (now left) × (1 ≤ n)
+        ⌝ }
+    ensures { λ r. ⌜ ((root : ℕ) → r ≡ judged st m t (legsIn root false n (now (tags .entry)) (now (left .entry)))) ⌝ }
 {
-    if is_simple(t, l.len) {
-        let x = l.legs[0];
-        return judge_simple(st, m, t, x);
+    if is_simple(t, n) {
+        return judge_simple(st, m, t, tags[0]);
     }
-    judge_complex(st, t, l)
+    judge_complex(st, t, tags, left, n)
 }

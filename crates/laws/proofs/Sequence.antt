@@ -1,6 +1,6 @@
 -- The order check does not look at the sequence of the legs: refusals test each leg or every two, and all else is of the sorted legs.
 use mathlib.Core.Path.{_≡_, refl, sym, ap, ap₂}
-use mathlib.Core.List.{List, _∷_}
+use mathlib.Core.List.{List, _++_}
 use mathlib.Core.Bool.{Bool, true, false, cond, not}
 use Prim.Native.Nat.{ℕ}
 use native.Mathlib.Omega.{arith}
@@ -27,7 +27,7 @@ digit-inj false true h = absurd (omega arith)
 digit-inj false false h = refl
 
 -- the key tells any two legs apart
-leg-eq : (a b : Leg) → _≡_ {A = List ℕ} (strikeKey (a .series) ∷ wholeLeg a) (strikeKey (b .series) ∷ wholeLeg b) → a ≡ b
+leg-eq : (a b : Leg) → _≡_ {A = List ℕ} (strikeKey (a .series) ++ wholeLeg a) (strikeKey (b .series) ++ wholeLeg b) → a ≡ b
 leg-eq a b e =
     let c : digit (a .series .call) ≡ digit (b .series .call) = cc in
     let p : a .series .call ≡ b .series .call = digit-inj _ _ c in

@@ -7,9 +7,9 @@ use native.Mathlib.Omega.{arith}
 use lib.ListN.{length, take, drop, getD}
 use Rattle.rules.specs.declared.Leg.{Leg}
 use Rattle.rules.specs.Order.{noLeg}
+use Rattle.keys.specs.Tags.{legAt, legsFrom}
 use Rattle.tagged.specs.declared.PairTally.{PairTally}
-use Rattle.tagged.specs.Tags.{legAt, legsFrom}
-use Rattle.tagged.proofs.Zip.{zip-length, zip-at}
+use Rattle.keys.proofs.Zip.{zip-length, zip-at}
 use Rattle.loops.proofs.Finding.{step, over}
 use Rattle.loners.specs.Tallies.{aloneWith, aloneAt, allAlone}
 

@@ -3,6 +3,7 @@ use amounts::pick;
 use choice::both;
 use choice::either;
 use choice::negated;
+use keys::is_bought;
 use tagged::PairTally;
 ghost use mathlib.Core.Path.{_≡_};
 ghost use Prim.Native.Nat.{_≤_};
@@ -14,7 +15,7 @@ fn lone(t: PairTally, tag: u64, left: u64) -> PairTally
     ensures { λ r. ⌜ r ≡ aloneAt t tag left ⌝ }
 {
     let open = negated(left == 0);
-    let bought = tag % 2 == 1;
+    let bought = is_bought(tag);
     PairTally {
         pairs: t.pairs,
         debit: either(t.debit, both(open, bought)),

@@ -1,124 +1,89 @@
 -- Both walks over tags are the definition's.
 use mathlib.Core.Path.{_≡_, refl, sym, ap, ap₂, _∙_}
-use mathlib.Core.List.{List, [], _∷_, _++_, map, zipWith}
-use mathlib.Core.Bool.{true, false}
-use Prim.Native.Nat.{ℕ, zero, suc, _%_, _≤_, _<_}
+use mathlib.Core.List.{List, _++_}
+use mathlib.Core.Bool.{Bool, true, false, not, _&&_, _||_}
+use Prim.Native.Nat.{ℕ, _≤_}
 use native.Mathlib.Omega.{arith}
-use lib.ListN.{length, take, getD, length-append, length-take}
-use lib.Seq.{length-take-le}
+use lib.ListN.{length, length-append, length-take}
 use Rattle.rules.specs.declared.Leg.{Leg}
-use Rattle.rules.specs.declared.Legs.{Legs}
-use Rattle.rules.specs.Lists.{All}
-use Rattle.rules.specs.Order.{legsIn, noLeg}
-use Rattle.rules.specs.Pairing.{Walked, walk, oneExpiry, oneStrike, expiryKey, byExpiry, bothWalks}
+use Rattle.rules.specs.Pairing.{Walked, walk, oneExpiry, oneStrike, byExpiry, bothWalks}
 use Rattle.rules.specs.Class.{pairClass}
+use Rattle.rules.proofs.Tests.{not-eq}
 use Rattle.laws.proofs.Pairings.{pairing-fewer}
-use Rattle.sorting.specs.Keys.{sortKeys, tagged, EachTwo}
+use Rattle.keys.specs.Tags.{legsFrom, legsIn}
 use Rattle.tagged.specs.declared.PairTally.{PairTally}
-use Rattle.tagged.specs.Tags.{legAt, legsFrom, Tagged, none, noted, Walks}
-use Rattle.rules.specs.Valid.{InRange}
-use Rattle.tags.specs.Legs.{tagOf}
-use Rattle.again.specs.Second.{keyAgain, secondTag, Moved}
+use Rattle.tagged.specs.Tags.{none, noted, Walks}
 use Rattle.loners.specs.Tallies.{allAlone, joinedTallies, tallyClass, Loners}
-use Rattle.pairing.specs.Both.{Walkable, BothWalks}
-use Rattle.pairing.proofs.Back.{legs-back}
-use Rattle.pairing.proofs.Again.{zip-take, keys-are, moved-legs}
-use Rattle.pairing.proofs.Tallied.{noted-both, pairs-counted, class-tallied}
+use Rattle.pairing.specs.Both.{tallied, BothWalks}
+use Rattle.pairing.proofs.Tallied.{alone-together, tallied-both, pairs-counted, tallied-pairs, class-tallied}
+use Rattle.pairing.proofs.Skip.{skip-pairs, skip-class}
 
-all-first : (P : Leg → Type 0) → P noLeg → (n : ℕ) (ls : List Leg) → ((i : ℕ) → i < n → P (getD ls i noLeg)) → All P (take n ls)
-all-first P d zero ls h = tt
-all-first P d (suc n) [] h = tt
-all-first P d (suc n) (x ∷ ls) h = (h 0 (omega arith), all-first P d n ls (λ i k. h (suc i) (omega arith)))
+-- a tally of pairs and loners says their number and class
+says : (european : Bool) (ls : List Leg) (w : Walked) (r : PairTally) → r ≡ tallied w
+    → length (bothWalks european ls .pairs) ≡ length (w .pairs)
+    → pairClass (bothWalks european ls) ≡ pairClass w
+    → BothWalks european ls (r .pairs) (tallyClass r)
+says european ls w r e p k =
+    record { pairings = ap (λ (t : PairTally). t .pairs) e ∙ tallied-pairs w ∙ sym p; class = ap tallyClass e ∙ class-tallied w ∙ sym k }
 
--- a tally of pairs, then of loners, says the number of pairs and the class
-tallied : (v : Walked) (t t′ : PairTally) (r : ℕ) → t ≡ noted none (v .pairs) → t′ ≡ allAlone t (v .legs) → t′ .pairs ≡ t .pairs → r ≡ tallyClass t′
-    → (t′ .pairs ≡ length (v .pairs)) × (r ≡ pairClass v)
-tallied v t t′ r e f p k = (
-  omega (arith, p, ap (λ (x : PairTally). x .pairs) e, pairs-counted none (v .pairs)),
-  k ∙ ap tallyClass (f ∙ ap (λ (x : PairTally). allAlone x (v .legs)) e) ∙ class-tallied v,
-)
-
-module _ (l : Legs) (w : Walkable l) (tags sizes left : List ℕ) (a : PairTally)
-    (tg : (take (l .len) tags ≡ map tagOf (legsIn l)) × Tagged tags)
-    (sz : (take (l .len) sizes ≡ map (λ x. x .size) (legsIn l)) × (length sizes ≡ 16))
-    (wa : Walks tags sizes left (l .len) false a) where
-  abbrev n : ℕ
-  n = l .len
-
-  abbrev root : ℕ
-  root = getD (l .legs) 0 noLeg .root
+module _ (root n : ℕ) (fits : n ≤ 16) (tags left after : List ℕ) (a : PairTally) (wa : Walks tags left after n false a) where
+  abbrev ls : List Leg
+  ls = legsIn root false n tags left
 
   abbrev first : Walked
-  first = walk oneExpiry (legsIn l)
+  first = walk oneExpiry ls
 
-  in-range : All (λ x. InRange (x .series)) (legsIn l)
-  in-range = all-first (λ x. InRange (x .series)) (record { expiry = omega arith; strike = omega arith }) n (l .legs) (w .range .each)
+  legs-few : length ls ≤ 16
+  legs-few = omega (arith, length-take n (legsFrom root false tags left))
 
-  first-legs : take n (legsFrom root false tags sizes) ≡ legsIn l
-  first-legs = zip-take (legAt root false) n tags sizes ∙ ap₂ (zipWith (legAt root false)) (tg .0) (sz .0) ∙ legs-back root (legsIn l) in-range (w .roots)
-
-  left-legs : take n (legsFrom root false tags left) ≡ first .legs
-  left-legs = wa .legs root ∙ ap (λ (ls : List Leg). walk oneExpiry ls .legs) first-legs
-
-  first-tally : a ≡ noted none (first .pairs)
-  first-tally = wa .tally root ∙ ap (λ (ls : List Leg). noted none (walk oneExpiry ls .pairs)) first-legs
-
-  legs-few : length (legsIn l) ≤ 16
-  legs-few = omega (arith, length-take n (l .legs), w .range .few)
-
-  once : bothWalks true (legsIn l) ≡ first
+  once : bothWalks true ls ≡ first
   unfolding bothWalks
   once = refl
 
   pub first-few : a .pairs ≤ 1000
   first-few =
-      let e = ap (λ (x : PairTally). x .pairs) first-tally ∙ pairs-counted none (first .pairs) in
-      let f = rw once at (pairing-fewer true (legsIn l)) in
+      let e = ap (λ (t : PairTally). t .pairs) (wa .tally root) ∙ pairs-counted none (first .pairs) in
+      let f = rw once at (pairing-fewer true ls) in
       omega (arith, e, f, legs-few)
 
-  pub one-walk : (t : PairTally) (r : ℕ) → Loners a tags left n t → r ≡ tallyClass t → BothWalks true l (t .pairs) r
-  one-walk t r lo k =
-      let d = tallied first a t r first-tally (lo .legs root false ∙ ap (allAlone a) left-legs) (lo .pairs) k in
-      record { pairings = d .0 ∙ ap (λ (v : Walked). length (v .pairs)) (sym once); class = d .1 ∙ ap pairClass (sym once) }
+  -- the first walk alone: the second is left out, or matches nothing
+  pub one-walk : (european : Bool) (alone r : PairTally) → Loners none tags after n alone → european || not (alone .debit && alone .credit) ≡ true → r ≡ joinedTallies a alone
+      → BothWalks european ls (r .pairs) (tallyClass r)
+  one-walk european alone r lo h e = go european h
+    where
+      loners : alone ≡ allAlone none (first .legs)
+      loners = lo .legs root false ∙ ap (allAlone none) (wa .legs root)
 
-  apart : EachTwo (λ x y. x ≡ y → ⊥) (map keyAgain (take n tags))
-  apart =
-      let fits = w .range .few in
-      let e : length (take n tags) ≡ length (take n sizes) = length-take-le n tags (rw (tg .1 .full) fits) ∙ sym (length-take-le n sizes (rw (sz .1) fits)) in
-      let k = keys-are root (take n tags) (take n sizes) e in
-      let m = ap (map (λ x. expiryKey (x .series))) (sym (zip-take (legAt root false) n tags sizes) ∙ first-legs) in
-      rw (sym k ∙ m) (w .apart)
+      whole : r ≡ tallied first
+      whole = e ∙ ap₂ joinedTallies (wa .tally root) loners ∙ sym (alone-together (noted none (first .pairs)) (first .legs))
 
-  module _ (places second rest after : List ℕ) (b : PairTally)
-      (order : take n places ≡ sortKeys (tagged 0 (map keyAgain (take n tags))))
-      (ms : Moved places n second (λ p. secondTag p (getD tags (p % 16) 0)))
-      (mr : Moved places n rest (λ p. getD left (p % 16) 0))
-      (wb : Walks second rest after n true b) where
+      go : (b : Bool) → b || not (alone .debit && alone .credit) ≡ true → BothWalks b ls (r .pairs) (tallyClass r)
+      go true k = says true ls first r whole (ap (λ (w : Walked). length (w .pairs)) once) (ap pairClass once)
+      go false k =
+          let one = ap (λ (t : PairTally). t .debit && t .credit) (sym loners) ∙ not-eq (alone .debit && alone .credit) k in
+          says false ls first r whole (skip-pairs ls one) (skip-class ls one)
+
+  module _ (b : PairTally) (wb : b ≡ tallied (walk oneStrike (byExpiry (legsIn root false n tags after)))) where
     abbrev again : Walked
     again = walk oneStrike (byExpiry (first .legs))
 
     abbrev both : Walked
     both = record { pairs = first .pairs ++ again .pairs; legs = again .legs }
 
-    twice : bothWalks false (legsIn l) ≡ both
+    twice : bothWalks false ls ≡ both
     unfolding bothWalks
     twice = refl
 
-    second-legs : take n (legsFrom root true second rest) ≡ byExpiry (first .legs)
-    second-legs = moved-legs root n (w .range .few) tags left places second rest (tg .1 .full) (wa .full) order ms mr apart ∙ ap byExpiry left-legs
-
-    second-tally : b ≡ noted none (again .pairs)
-    second-tally = wb .tally root ∙ ap (λ (ls : List Leg). noted none (walk oneStrike ls .pairs)) second-legs
+    second : b ≡ tallied again
+    second = wb ∙ ap (λ (xs : List Leg). tallied (walk oneStrike (byExpiry xs))) (wa .legs root)
 
     pub second-few : b .pairs ≤ 1000
     second-few =
-        let e = ap (λ (x : PairTally). x .pairs) second-tally ∙ pairs-counted none (again .pairs) in
-        let f = rw twice at (pairing-fewer false (legsIn l)) in
+        let e = ap (λ (t : PairTally). t .pairs) second ∙ tallied-pairs again in
+        let f = rw twice at (pairing-fewer false ls) in
         omega (arith, e, f, legs-few, length-append (first .pairs) (again .pairs))
 
-    pub two-walks : (t : PairTally) (r : ℕ) → Loners (joinedTallies a b) second after n t → r ≡ tallyClass t → BothWalks false l (t .pairs) r
-    two-walks t r lo k =
-        let e = ap₂ joinedTallies first-tally second-tally ∙ sym (noted-both (first .pairs) (again .pairs)) in
-        let f = wb .legs root ∙ ap (λ (ls : List Leg). walk oneStrike ls .legs) second-legs in
-        let d = tallied both (joinedTallies a b) t r e (lo .legs root true ∙ ap (allAlone (joinedTallies a b)) f) (lo .pairs) k in
-        record { pairings = d .0 ∙ ap (λ (v : Walked). length (v .pairs)) (sym twice); class = d .1 ∙ ap pairClass (sym twice) }
+    pub two-walks : (r : PairTally) → r ≡ joinedTallies a b → BothWalks false ls (r .pairs) (tallyClass r)
+    two-walks r e =
+        let whole = e ∙ ap₂ joinedTallies (wa .tally root) second ∙ tallied-both (first .pairs) again in
+        says false ls both r whole (ap (λ (w : Walked). length (w .pairs)) twice) (ap pairClass twice)

@@ -1,4 +1,5 @@
-pub mod Back
+pub mod Places
 pub mod Tallied
-pub mod Again
+pub mod Skip
+pub mod Seconds
 pub mod Both

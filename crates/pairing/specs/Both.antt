@@ -1,24 +1,21 @@
--- Legs that both walks can take, and what both walks give.
+-- What both walks give.
 use mathlib.Core.Path.{_≡_}
-use mathlib.Core.List.{map}
+use mathlib.Core.List.{List}
 use mathlib.Core.Bool.{Bool}
 use Prim.Native.Nat.{ℕ}
-use lib.ListN.{length, getD}
-use Rattle.rules.specs.declared.Legs.{Legs}
-use Rattle.rules.specs.Lists.{All}
-use Rattle.rules.specs.Order.{legsIn, noLeg}
-use Rattle.rules.specs.Pairing.{expiryKey, bothWalks}
+use lib.ListN.{length}
+use Rattle.rules.specs.declared.Leg.{Leg}
+use Rattle.rules.specs.Pairing.{Walked, bothWalks}
 use Rattle.rules.specs.Class.{pairClass}
-use Rattle.sorting.specs.Keys.{EachTwo}
-use Rattle.tags.specs.Legs.{AllInRange}
+use Rattle.tagged.specs.declared.PairTally.{PairTally}
+use Rattle.tagged.specs.Tags.{none, noted}
+use Rattle.loners.specs.Tallies.{allAlone}
 
--- Legs of a valid order: one root, and no series twice.
-pub record Walkable (l : Legs) : Type 0 where
-  pub range : AllInRange l
-  pub roots : All (λ x. x .root ≡ getD (l .legs) 0 noLeg .root) (legsIn l)
-  pub apart : EachTwo (λ a b. a ≡ b → ⊥) (map (λ x. expiryKey (x .series)) (legsIn l))
+-- the tally of a walk's pairs and loners
+abbrev pub tallied : Walked → PairTally
+tallied w = allAlone (noted none (w .pairs)) (w .legs)
 
 -- the number of pairings, and the class by pairs and loners
-pub record BothWalks (european : Bool) (l : Legs) (count number : ℕ) : Type 0 where
-  pub pairings : count ≡ length (bothWalks european (legsIn l) .pairs)
-  pub class : number ≡ pairClass (bothWalks european (legsIn l))
+pub record BothWalks (european : Bool) (ls : List Leg) (count number : ℕ) : Type 0 where
+  pub pairings : count ≡ length (bothWalks european ls .pairs)
+  pub class : number ≡ pairClass (bothWalks european ls)

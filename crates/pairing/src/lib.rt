@@ -1,15 +1,27 @@
 // Both walks of an order's legs: how many pairings they make, and the class that pairs and loners give.
-use again::places;
-use again::second_left;
-use again::second_tags;
+use choice::both;
+use choice::either;
+use choice::negated;
+use keys::arrange;
+use keys::place_of;
+use keys::second_tag;
 use loners::joined;
 use loners::loners;
 use loners::pair_class;
-use rules::Legs;
-use tags::sizes;
-use tags::tags;
+use sorting::sort;
+use tagged::PairTally;
 use walk::walk;
-ghost use Rattle.pairing.specs.Both.{Walkable, BothWalks};
+ghost use mathlib.Core.Path.{_≡_};
+ghost use mathlib.Core.List.{map};
+ghost use mathlib.Core.Bool.{false};
+ghost use Prim.Native.Nat.{ℕ, _/_};
+ghost use lib.ListN.{length, take};
+ghost use Rattle.rules.specs.Pairing.{oneStrike, byExpiry};
+ghost use Rattle.rules.specs.Pairing as pairing;
+ghost use Rattle.sorting.specs.Keys.{tagged, EachTwo};
+ghost use Rattle.keys.specs.Tags.{secondTag, legsIn, Tagged};
+ghost use Rattle.loners.specs.Tallies.{tallyClass};
+ghost use Rattle.pairing.specs.Both.{tallied, BothWalks};
 
 pub struct Paired {
     pub pairings: u64,
@@ -17,27 +29,58 @@ pub struct Paired {
     pub class: u64,
 }
 
-// The legs are listed latest walked first. The second walk takes what the first left of every leg, unless the class is European.
-pub fn both_walks(l: Legs, european: bool) -> Paired
-    requires { ⌜ Walkable l ⌝ }
-    ensures { λ r. ⌜ BothWalks european l (r .pairings) (r .class) ⌝ }
+// The legs' tags of the second walk, each with its leg's place.
+fn second_places(tags: &[u64; 16], n: usize, places: &mut [u64; 16])
+    requires { ⌜ Tagged n (now tags) × (length (now places) ≡ 16) ⌝ }
+    ensures { λ _. ⌜ take n (now (places .exit)) ≡ tagged 0 (map secondTag (take n (now (tags .entry)))) ⌝ }
+    ensures { λ _. ⌜ length (now (places .exit)) ≡ 16 ⌝ }
 {
-    let n = l.len;
-    let first = tags(l);
-    let mut left = sizes(l);
-    let a = walk(&first, &mut left, n, false);
-    if european {
-        let t = loners(a, &first, &left, n);
-        return Paired {
-            pairings: t.pairs,
-            class: pair_class(t),
-        };
+    let mut i = 0;
+    while i < n {
+        places[i] = place_of(second_tag(tags[i]), i);
+        i += 1;
     }
-    let again = places(&first, n);
-    let second = second_tags(&again, &first, n);
-    let mut rest = second_left(&again, &left, n);
-    let b = walk(&second, &mut rest, n, true);
-    let t = loners(joined(a, b), &second, &rest, n);
+}
+
+// Pairs and loners of the second walk, which takes what the first left of every leg.
+fn second_walk(tags: &[u64; 16], left: &[u64; 16], n: usize) -> PairTally
+    requires { ⌜ Tagged n (now tags) × (length (now left) ≡ 16) × EachTwo (λ a b. a / 2 ≡ b / 2 → ⊥) (take n (now tags)) ⌝ }
+    ensures { λ r. ⌜ ((root : ℕ) → r ≡ tallied (pairing.walk oneStrike (byExpiry (legsIn root false n (now (tags .entry)) (now (left .entry)))))) ⌝ }
+{
+    let mut places = [0u64; 16];
+    second_places(tags, n, &mut places);
+    sort(&mut places, n);
+    let mut rest = [0u64; 16];
+    arrange(&mut places, left, n, &mut rest);
+    let pairs = walk(&places, &mut rest, n, true);
+    loners(pairs, &places, &rest, n)
+}
+
+// Pairs and loners of both walks. Where the first leaves contracts of one side alone, the second would match none.
+fn tally(tags: &[u64; 16], left: &mut [u64; 16], n: usize, european: bool) -> PairTally
+    requires { ⌜ Tagged n (now tags) × (length (now left) ≡ 16) × EachTwo (λ a b. a / 2 ≡ b / 2 → ⊥) (take n (now tags)) ⌝ }
+    ensures { λ r. ⌜ ((root : ℕ) → BothWalks european (legsIn root false n (now (tags .entry)) (now (left .entry))) (r .pairs) (tallyClass r)) ⌝ }
+{
+    let pairs = walk(tags, left, n, false);
+    let none = PairTally {
+        pairs: 0,
+        debit: false,
+        credit: false,
+    };
+    let alone = loners(none, tags, left, n);
+    if either(european, negated(both(alone.debit, alone.credit))) {
+        return joined(pairs, alone);
+    }
+    joined(pairs, second_walk(tags, left, n))
+}
+
+// The legs are listed latest walked first, no series twice. The second walk takes what the first left, unless the class
+// is European.
+pub fn both_walks(tags: &[u64; 16], left: &mut [u64; 16], n: usize, european: bool) -> Paired
+    requires { ⌜ Tagged n (now tags) × (length (now left) ≡ 16) × EachTwo (λ a b. a / 2 ≡ b / 2 → ⊥) (take n (now tags)) ⌝ }
+    ensures { λ r. ⌜ ((root : ℕ) → BothWalks european (legsIn root false n (now (tags .entry)) (now (left .entry))) (r .pairings) (r .class)) ⌝ }
+{
+    let t = tally(tags, left, n, european);
     Paired {
         pairings: t.pairs,
         class: pair_class(t),

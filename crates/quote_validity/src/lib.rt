@@ -5,13 +5,11 @@ use choice::either;
 use choice::negated;
 use limits::market_holds;
 use limits::settings_hold;
-use reading::series_of;
 use rules::Market;
 use rules::Mills;
 use rules::Series;
 use rules::Settings;
-use symbol::is_symbol;
-use symbol::parts_of;
+use series::series_of;
 ghost use mathlib.Core.Path.{_≡_};
 ghost use Rattle.rules.specs.Quote.{isBadQuote};
 ghost use Rattle.quote_validity.specs.Quotes.{IsQuoteRead};
@@ -35,31 +33,19 @@ fn is_bad_quote(bid: Mills, offer: Mills) -> bool
     )
 }
 
-// The symbol is read once.
+// The reader's numbers, 1 and 4, are the first two of a quote's refusals.
 pub fn read_quote(symbol: &[u8], bid: Mills, offer: Mills, st: Settings, m: Market) -> QuoteRead
     ensures { λ r. ⌜ IsQuoteRead st m (now (symbol .entry)) bid offer r ⌝ }
 {
-    if symbol.len() != 21 {
-        return QuoteRead {
-            number: 1,
-            root: 0,
-            series: Series {
-                call: false,
-                expiry: 0,
-                strike: Mills(0),
-            },
-        };
-    }
-    let p = parts_of(symbol);
-    let good = is_symbol(symbol, p);
-    let series = series_of(p);
-    let n = otherwise(0, negated(good), 4);
+    let read = symbol::read(symbol);
+    let series = series_of(read.parts);
+    let n = read.number;
     let n = otherwise(n, negated(settings_hold(st)), 9);
     let n = otherwise(n, negated(market_holds(m)), 10);
     let n = otherwise(n, is_bad_quote(bid, offer), 11);
     QuoteRead {
         number: n,
-        root: p.root,
+        root: read.parts.root,
         series: series,
     }
 }

@@ -1,19 +1,48 @@
--- What is read of raw legs.
+-- What reading an order's legs says.
 use mathlib.Core.Path.{_≡_}
-use mathlib.Core.Bool.{not}
+use mathlib.Core.List.{List, [], _∷_}
+use mathlib.Core.Bool.{Bool, true, false, cond, not}
+use Prim.Native.Nat.{ℕ, _+_, _*_, _^_, _≤_, _<_}
+use lib.ListN.{length}
 use Rattle.rules.specs.declared.RawLeg.{RawLeg}
 use Rattle.rules.specs.declared.Order.{Order}
-use Rattle.rules.specs.Lists.{any}
-use Rattle.rules.specs.Symbol.{isSymbol}
-use Rattle.rules.specs.Order.{recordLegs, legOf, legsOf, legsIn}
-use Rattle.reading.specs.declared.LegRead.{LegRead}
-use Rattle.reading.specs.declared.LegsRead.{LegsRead}
+use Rattle.rules.specs.Limits.{within}
+use Rattle.rules.specs.Lists.{any, somePair}
+use Rattle.rules.specs.Numerals.{numeral}
+use Rattle.rules.specs.Symbol.{isRoot, partsOf, isSymbol}
+use Rattle.rules.specs.Order.{recordLegs, seriesOf, legsOf}
+use Rattle.rules.specs.Pairing.{digit}
+use Rattle.rules.specs.Numbers.{firstOf, isBadCount, isOtherRoot}
+use Rattle.keys.specs.Tags.{keyOf, Placed}
+use Rattle.reading.specs.declared.Read.{Read}
 
-pub record IsLegRead (raw : RawLeg) (r : LegRead) : Type 0 where
-  pub leg : r .leg ≡ legOf raw
-  pub good : r .good ≡ isSymbol (raw .symbol)
+-- ---- one leg
 
-pub record AreLegsRead (o : Order) (r : LegsRead) : Type 0 where
-  pub legs : legsIn (r .legs) ≡ legsOf (recordLegs o)
-  pub len : r .legs .len ≡ o .len
-  pub bad : r .bad ≡ any (λ raw. not (isSymbol (raw .symbol))) (recordLegs o)
+-- a root's number, or one that no six bytes say
+abbrev pub IsKnown : ℕ → Type 0
+IsKnown known = known < 256 ^ 6 → isRoot (numeral 256 0 6 known) ≡ true
+
+-- the tag of a leg with these symbol bytes on this side, 0 where they are outside the layout
+abbrev pub tagAt : List ℕ → Bool → ℕ
+tagAt s bought = cond (isSymbol s) (keyOf false (seriesOf (partsOf s)) * 2 + digit bought) 0
+
+-- ---- the legs of an order
+
+-- refusals 3, 4 and 5, which reading finds
+abbrev pub readRefusals : ℕ → List RawLeg → List (Bool × ℕ)
+readRefusals n rs = (not (within 1 16 n), 3) ∷ (any (λ r. not (isSymbol (r .symbol))) rs, 4) ∷ (any isBadCount rs, 5) ∷ []
+
+-- the legs, where none of these applies
+pub record GoodRead (o : Order) (places sizes roots : List ℕ) (r : Read) : Type 0 where
+  pub len : r .len ≡ o .len
+  pub placed : Placed (legsOf (recordLegs o)) places sizes roots
+  pub other : r .other ≡ somePair isOtherRoot (legsOf (recordLegs o))
+
+pub record IsRead (o : Order) (places sizes roots : List ℕ) (r : Read) : Type 0 where
+  pub number : r .number ≡ firstOf (readRefusals (o .len) (recordLegs o))
+  pub few : r .len ≤ 16
+  pub terms : r .terms ≡ o .terms
+  pub good : r .number ≡ 0 → GoodRead o places sizes roots r
+  pub fullPlaces : length places ≡ 16
+  pub fullSizes : length sizes ≡ 16
+  pub fullRoots : length roots ≡ 16

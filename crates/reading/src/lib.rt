@@ -1,92 +1,111 @@
-// The series that a symbol's parts say, and the legs of an order record as read.
+// The legs of an order record as arrays of numbers, and the refusals that reading finds.
+use amounts::pick;
+use amounts::within;
 use choice::either;
 use choice::negated;
-use rules::Leg;
-use rules::Legs;
-use rules::Mills;
+use keys::place_of;
+use keys::tag_of;
+use root_number::root_of;
+use roots::is_root;
 use rules::Order;
-use rules::RawLeg;
-use rules::Series;
-use rules::SymbolParts;
-use symbol::is_symbol;
-use symbol::parts_of;
+use rules::Terms;
+use series::series_of;
+use symbol::read_after;
 ghost use mathlib.Core.Path.{_≡_};
-ghost use Prim.Native.Nat.{_≤_, _<_};
-ghost use Rattle.rules.specs.Order.{seriesOf};
-ghost use Rattle.reading.specs.Legs.{IsLegRead, AreLegsRead};
+ghost use mathlib.Core.List.{[], _∷_};
+ghost use Prim.Native.Nat.{_<_};
+ghost use lib.ListN.{length};
+ghost use lib.Seq.{slice};
+ghost use Rattle.rules.specs.Numerals.{value};
+ghost use Rattle.rules.specs.Symbol.{isRoot};
+ghost use Rattle.reading.specs.Legs.{IsKnown, tagAt, IsRead};
 
-// The bounds are those of the parts of any 21 bytes.
-pub fn series_of(p: SymbolParts) -> Series
-    requires { ⌜ (p .year < 5000) × (p .month < 3000) × (p .day < 3000) ⌝ }
-    ensures { λ r. ⌜ r ≡ seriesOf p ⌝ }
+// Whether six bytes, whose number is `root`, are a root. Those of a known root need no test: no others say its number.
+fn is_root_after(known: u64, root: u64, b0: u8, b1: u8, b2: u8, b3: u8, b4: u8, b5: u8) -> bool
+    requires { ⌜ IsKnown known × (root ≡ value 256 0 (b0 ∷ b1 ∷ b2 ∷ b3 ∷ b4 ∷ b5 ∷ [])) ⌝ }
+    ensures { λ r. ⌜ r ≡ isRoot (b0 ∷ b1 ∷ b2 ∷ b3 ∷ b4 ∷ b5 ∷ []) ⌝ }
 {
-    Series {
-        call: p.right == 67,
-        expiry: p.year * 10000 + p.month * 100 + p.day,
-        strike: Mills(p.strike.0),
+    if root == known {
+        return true;
+    }
+    is_root(b0, b1, b2, b3, b4, b5)
+}
+
+// The tag of a leg whose root's number is `root`, or 0 where its symbol is outside the layout. No tag is 0: a year is at
+// least 2000.
+fn tag_at(known: u64, root: u64, s: &[u8], bought: bool) -> u64
+    requires { ⌜ IsKnown known × (length (now s) ≡ 21) × (root ≡ value 256 0 (slice 0 6 (now s))) ⌝ }
+    ensures { λ r. ⌜ (r ≡ tagAt (now (s .entry)) bought) × (r < 40000000000000000) ⌝ }
+{
+    if negated(is_root_after(known, root, s[0], s[1], s[2], s[3], s[4], s[5])) {
+        return 0;
+    }
+    let read = read_after(root, s);
+    if read.number != 0 {
+        return 0;
+    }
+    tag_of(series_of(read.parts), bought)
+}
+
+// What reading an order's legs says beside the arrays.
+pub struct Read {
+    // The first of refusals 3, 4 and 5 that applies, or 0.
+    pub number: u64,
+    // A root is not the first leg's.
+    pub other: bool,
+    pub len: usize,
+    pub terms: Terms,
+}
+
+fn read_of(number: u64, other: bool, len: usize, terms: Terms) -> Read
+    ensures { λ r. ⌜ r ≡ record { number = number; other = other; len = len; terms = terms } ⌝ }
+{
+    Read {
+        number: number,
+        other: other,
+        len: len,
+        terms: terms,
     }
 }
 
-// One leg, and whether its symbol is in the layout. Of any other 21 bytes the leg is read all the same.
-pub struct LegRead {
-    pub leg: Leg,
-    pub good: bool,
-}
+// 2^48, a number that no six bytes say: before the first leg no root is known.
+const NO_ROOT: u64 = 281474976710656;
 
-pub fn leg_of(raw: RawLeg) -> LegRead
-    ensures { λ r. ⌜ IsLegRead raw r ⌝ }
-{
-    let symbol = raw.symbol;
-    let p = parts_of(&symbol);
-    let good = is_symbol(&symbol, p);
-    let series = series_of(p);
-    let leg = Leg {
-        root: p.root,
-        series: series,
-        bought: raw.bought,
-        size: raw.size,
-    };
-    LegRead {
-        leg: leg,
-        good: good,
-    }
-}
-
-// The legs, and whether a symbol is outside the layout.
-pub struct LegsRead {
-    pub legs: Legs,
-    pub bad: bool,
-}
-
-// Each symbol is read once.
-pub fn legs_of(o: Order) -> LegsRead
-    requires { ⌜ o .len ≤ 16 ⌝ }
-    ensures { λ r. ⌜ AreLegsRead o r ⌝ }
+// Each symbol is read once, and a root that is the first leg's is not tested again. A bad count does not end the loop,
+// since a symbol that stands behind it may be outside the layout, which is the lower number.
+pub fn read_legs(
+    o: Order,
+    places: &mut [u64; 16],
+    sizes: &mut [u64; 16],
+    roots: &mut [u64; 16],
+) -> Read
+    requires { ⌜ (length (now places) ≡ 16) × (length (now sizes) ≡ 16) × (length (now roots) ≡ 16) ⌝ }
+    ensures { λ r. ⌜ IsRead o (now (places .exit)) (now (sizes .exit)) (now (roots .exit)) r ⌝ }
 {
     let n = o.len;
-    let none = Leg {
-        root: 0,
-        series: Series {
-            call: false,
-            expiry: 0,
-            strike: Mills(0),
-        },
-        bought: false,
-        size: 0,
-    };
-    let mut legs = [none; 16];
-    let mut bad = false;
+    let t = o.terms;
+    if negated(within(1, 16, n as u64)) {
+        return read_of(3, false, 0, t);
+    }
+    let mut first = NO_ROOT;
+    let mut number = 0;
+    let mut other = false;
     let mut i = 0;
     while i < n {
         let raw = o.legs[i];
-        let read = leg_of(raw);
-        let leg = read.leg;
-        legs[i] = leg;
-        bad = either(bad, negated(read.good));
+        let s = raw.symbol;
+        let root = root_of(s[0], s[1], s[2], s[3], s[4], s[5]);
+        let tag = tag_at(first, root, &s, raw.bought);
+        if tag == 0 {
+            return read_of(4, false, 0, t);
+        }
+        places[i] = place_of(tag, i);
+        sizes[i] = raw.size;
+        roots[i] = root;
+        first = roots[0];
+        number = pick(within(1, 10000, raw.size), number, 5);
+        other = either(other, negated(first == root));
         i += 1;
     }
-    LegsRead {
-        legs: Legs { legs: legs, len: n },
-        bad: bad,
-    }
+    read_of(number, other, n, t)
 }

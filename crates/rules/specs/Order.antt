@@ -11,7 +11,6 @@ use Rattle.rules.specs.declared.Terms.{Terms}
 use Rattle.rules.specs.declared.Order.{Order}
 use Rattle.rules.specs.declared.Series.{Series}
 use Rattle.rules.specs.declared.Leg.{Leg}
-use Rattle.rules.specs.declared.Legs.{Legs}
 use Rattle.rules.specs.declared.SymbolParts.{SymbolParts}
 use Rattle.rules.specs.Symbol.{partsOf}
 
@@ -84,10 +83,6 @@ noRawLeg = record { bought = false; size = 0; symbol = [] }
 
 abbrev pub noLeg : Leg
 noLeg = record { root = 0; series = record { call = false; expiry = 0; strike = record { 0 = 0 } }; bought = false; size = 0 }
-
--- the legs that a record of legs carries
-abbrev pub legsIn : Legs → List Leg
-legsIn l = take (l .len) (l .legs)
 
 -- "Unit counts are the counts divided by their greatest common divisor." By remainders; `n` bounds the steps, and one for each unit of `b` is enough.
 unfoldable pub gcdWithin : ℕ → ℕ → ℕ → ℕ

@@ -1,7 +1,7 @@
 -- Document 01, Pairing.
 use mathlib.Core.List.{List, [], _∷_, _++_}
 use mathlib.Core.Bool.{Bool, cond, not, _&&_}
-use Prim.Native.Nat.{ℕ, zero, suc, _+_, _-_, _*_, min}
+use Prim.Native.Nat.{ℕ, zero, suc, _-_, min}
 use lib.Dec.{eqb, ltb}
 use Rattle.rules.specs.declared.Series.{Series}
 use Rattle.rules.specs.declared.Leg.{Leg}
@@ -58,10 +58,6 @@ module _ (same : Series → Series → Bool) where
 abbrev pub digit : Bool → ℕ
 digit b = cond b 1 0
 
--- three numbers of at most one, eight and eight digits as one, which is in their order
-abbrev pub packed : ℕ → ℕ → ℕ → ℕ
-packed a b c = (a * 100000000 + b) * 100000000 + c
-
 -- the whole leg, so that no two legs have one key
 abbrev pub wholeLeg : Leg → List ℕ
 wholeLeg l = digit (l .series .call) ∷ l .series .expiry ∷ l .series .strike .0 ∷ digit (l .bought) ∷ l .size ∷ l .root ∷ []
@@ -71,22 +67,22 @@ abbrev pub oneExpiry : Series → Series → Bool
 oneExpiry s t = sameBool (s .call) (t .call) && eqb (s .expiry) (t .expiry)
 
 -- the first walk's sequence, latest walked first
-abbrev pub strikeKey : Series → ℕ
-strikeKey s = packed (digit (s .call)) (s .expiry) (cond (s .call) (99999999 - s .strike .0) (s .strike .0))
+abbrev pub strikeKey : Series → List ℕ
+strikeKey s = digit (s .call) ∷ s .expiry ∷ cond (s .call) (99999999 - s .strike .0) (s .strike .0) ∷ []
 
 unfoldable pub byStrike : List Leg → List Leg
-byStrike = sort (λ l. strikeKey (l .series) ∷ wholeLeg l)
+byStrike = sort (λ l. strikeKey (l .series) ++ wholeLeg l)
 
 -- 2. "what is left at one type and strike is walked from the nearest expiry to the farthest"
 abbrev pub oneStrike : Series → Series → Bool
 oneStrike s t = sameBool (s .call) (t .call) && eqb (s .strike .0) (t .strike .0)
 
 -- the second walk's sequence, latest walked first
-abbrev pub expiryKey : Series → ℕ
-expiryKey s = packed (digit (s .call)) (s .strike .0) (99999999 - s .expiry)
+abbrev pub expiryKey : Series → List ℕ
+expiryKey s = digit (s .call) ∷ s .strike .0 ∷ (99999999 - s .expiry) ∷ []
 
 unfoldable pub byExpiry : List Leg → List Leg
-byExpiry = sort (λ l. expiryKey (l .series) ∷ wholeLeg l)
+byExpiry = sort (λ l. expiryKey (l .series) ++ wholeLeg l)
 
 -- Both walks of legs in the first walk's sequence; the second "Unless the class is European index style".
 unfoldable pub bothWalks : Bool → List Leg → Walked

@@ -3,13 +3,13 @@ use mathlib.Core.Path.{_≡_}
 use mathlib.Core.Bool.{true, false}
 use mathlib.Core.List.{List}
 use Prim.Native.Nat.{_≤_}
+use lib.ListN.{length}
 use Rattle.rules.specs.declared.Series.{Series}
 use Rattle.rules.specs.declared.Terms.{Terms}
 use Rattle.rules.specs.declared.Leg.{Leg}
-use Rattle.rules.specs.declared.Legs.{Legs}
 use Rattle.rules.specs.declared.Settings.{Settings}
 use Rattle.rules.specs.Lists.{All, somePair}
-use Rattle.rules.specs.Order.{legsIn, isComplex}
+use Rattle.rules.specs.Order.{isComplex}
 use Rattle.rules.specs.Market.{settingsHold}
 use Rattle.rules.specs.Numbers.{isSameSeries, isOtherRoot}
 
@@ -30,20 +30,15 @@ pub record AreValid (ls : List Leg) : Type 0 where
   pub apart : somePair isSameSeries ls ≡ false
   pub roots : somePair isOtherRoot ls ≡ false
 
--- the same of a record of legs
-pub record ValidLegs (l : Legs) : Type 0 where
-  pub few : l .len ≤ 16
-  pub legs : AreValid (legsIn l)
-
 -- a unit count's size and a strike
 pub record UnitWithin (u : Leg) : Type 0 where
   pub size : u .size ≤ 10000
   pub strike : u .series .strike .0 ≤ 99999999
 
 -- the unit legs of a complex order, and settings within their limits
-pub record ComplexOrder (st : Settings) (t : Terms) (us : Legs) : Type 0 where
+pub record ComplexOrder (st : Settings) (t : Terms) (us : List Leg) : Type 0 where
   pub settings : settingsHold st ≡ true
-  pub complex : isComplex t (legsIn us) ≡ true
-  pub some : 1 ≤ us .len
-  pub few : us .len ≤ 16
-  pub each : All UnitWithin (legsIn us)
+  pub complex : isComplex t us ≡ true
+  pub some : 1 ≤ length us
+  pub few : length us ≤ 16
+  pub each : All UnitWithin us

@@ -26,8 +26,8 @@ pub struct SymbolRead {
 
 // One leg as it arrives: the count's side and size, and 21 symbol bytes, whatever they hold. A count of 0 is bought, of size 0.
 pub struct RawLeg {
-    pub bought: bool,
     pub size: u64,
+    pub bought: bool,
     pub symbol: [u8; 21],
 }
 
@@ -66,12 +66,6 @@ pub struct Leg {
     pub series: Series,
     pub bought: bool,
     pub size: u64,
-}
-
-// Legs as read, up to 16.
-pub struct Legs {
-    pub legs: [Leg; 16],
-    pub len: usize,
 }
 
 // The exchange's settings. Switches and the last two: 0 is no, any other value yes.

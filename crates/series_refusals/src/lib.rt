@@ -1,62 +1,69 @@
-// The tests of refusals 6 and 7: a series twice, and roots that differ.
+// The test of refusal 6: a series twice.
 use choice::both;
-use choice::either;
-use choice::negated;
-use rules::Leg;
-use rules::Legs;
+use keys::key_in;
+use sorting::sort;
 ghost use mathlib.Core.Path.{_≡_};
-ghost use Prim.Native.Nat.{_≤_};
+ghost use Prim.Native.Nat.{_≤_, _<_};
+ghost use lib.ListN.{length, take};
 ghost use Rattle.rules.specs.Lists.{somePair};
-ghost use Rattle.rules.specs.Order.{legsIn};
-ghost use Rattle.rules.specs.Numbers.{isSameSeries, isOtherRoot};
+ghost use Rattle.series_refusals.specs.Twice.{someNext, keysOf, isSameKey, standsAgain, SortedTwice};
 
-fn same_series(a: Leg, b: Leg) -> bool
-    ensures { λ r. ⌜ r ≡ isSameSeries a b ⌝ }
+// Whether two neighbours have one key.
+fn some_next(places: &[u64; 16], n: usize) -> bool
+    requires { ⌜ (n ≤ 16) × (length (now places) ≡ 16) ⌝ }
+    ensures { λ r. ⌜ r ≡ someNext (take n (now (places .entry))) ⌝ }
 {
-    let dated = both(
-        both(a.root == b.root, a.series.call == b.series.call),
-        a.series.expiry == b.series.expiry,
-    );
-    both(dated, a.series.strike.0 == b.series.strike.0)
-}
-
-// Every two legs are compared: those of one series may stand anywhere. The legs are read in place, since a copy of
-// them for each turn would cost more than the comparisons.
-pub fn some_series_twice(l: Legs) -> bool
-    requires { ⌜ l .len ≤ 16 ⌝ }
-    ensures { λ r. ⌜ r ≡ somePair isSameSeries (legsIn l) ⌝ }
-{
-    let n = l.len;
-    let mut r = false;
-    let mut i = 0;
+    let mut i = 1;
     while i < n {
-        let mut j = i + 1;
-        while j < n {
-            r = either(r, same_series(l.legs[i], l.legs[j]));
-            j += 1;
+        if key_in(places[i - 1]) == key_in(places[i]) {
+            return true;
         }
         i += 1;
     }
-    r
+    false
 }
 
-fn other_root(a: Leg, b: Leg) -> bool
-    ensures { λ r. ⌜ r ≡ isOtherRoot a b ⌝ }
+// Whether the series at `at` stands again behind it.
+fn stands_again(places: &[u64; 16], roots: &[u64; 16], n: usize, at: usize) -> bool
+    requires { ⌜ (n ≤ 16) × (at < n) × (length (now places) ≡ 16) × (length (now roots) ≡ 16) ⌝ }
+    ensures { λ r. ⌜ r ≡ standsAgain n at (keysOf (now (places .entry)) (now (roots .entry))) ⌝ }
 {
-    negated(a.root == b.root)
-}
-
-// Where two roots differ, one of them is not the first leg's: so one pass is enough.
-pub fn some_other_root(l: Legs) -> bool
-    requires { ⌜ l .len ≤ 16 ⌝ }
-    ensures { λ r. ⌜ r ≡ somePair isOtherRoot (legsIn l) ⌝ }
-{
-    let n = l.len;
-    let mut r = false;
-    let mut i = 1;
+    let key = key_in(places[at]);
+    let root = roots[at];
+    let mut i = at + 1;
     while i < n {
-        r = either(r, other_root(l.legs[0], l.legs[i]));
+        if both(key == key_in(places[i]), root == roots[i]) {
+            return true;
+        }
         i += 1;
     }
-    r
+    false
+}
+
+// Whether some two have one key and one root.
+fn some_two(places: &[u64; 16], roots: &[u64; 16], n: usize) -> bool
+    requires { ⌜ (n ≤ 16) × (length (now places) ≡ 16) × (length (now roots) ≡ 16) ⌝ }
+    ensures { λ r. ⌜ r ≡ somePair isSameKey (take n (keysOf (now (places .entry)) (now (roots .entry)))) ⌝ }
+{
+    let mut i = 0;
+    while i < n {
+        if stands_again(places, roots, n, i) {
+            return true;
+        }
+        i += 1;
+    }
+    false
+}
+
+// Sorts the places, unless roots differ, and says whether a series stands twice. Once sorted, a series that stands
+// twice stands in neighbours. A place does not say its root: where roots differ every two legs are compared.
+pub fn sorted_twice(places: &mut [u64; 16], roots: &[u64; 16], n: usize, other: bool) -> bool
+    requires { ⌜ (n ≤ 16) × (length (now places) ≡ 16) × (length (now roots) ≡ 16) ⌝ }
+    ensures { λ r. ⌜ SortedTwice n other (now (places .entry)) (now (roots .entry)) (now (places .exit)) r ⌝ }
+{
+    if other {
+        return some_two(places, roots, n);
+    }
+    sort(places, n);
+    some_next(places, n)
 }

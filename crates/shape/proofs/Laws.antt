@@ -1,20 +1,19 @@
 -- The definitions as the code computes them.
-use mathlib.Core.Path.{_≡_, refl}
+use mathlib.Core.Path.{_≡_, refl, _∙_}
 use mathlib.Core.List.{List, [], _∷_}
 use mathlib.Core.Bool.{Bool, true, false, not, _&&_}
-use Prim.Native.Nat.{ℕ, zero, suc, _+_, _-_, _*_, min, max}
+use Prim.Native.Nat.{ℕ, zero, suc, _+_, _-_, _*_, _<_, min, max}
 use native.Mathlib.Omega.{arith}
 use lib.Dec.{eqb, ltb}
-use lib.ListN.{length, take}
+use lib.ListN.{length, take, getD}
 use borrow.Author.Tests.{eqb-true, eqb-false, eq-eqb, ne-eqb}
 use Rattle.rules.specs.declared.Leg.{Leg}
-use Rattle.rules.specs.declared.Legs.{Legs}
 use Rattle.rules.specs.declared.Series.{Series}
 use Rattle.rules.specs.Lists.{every}
 use Rattle.rules.specs.Pairing.{oneExpiry}
-use Rattle.rules.specs.Order.{legsIn}
-use Rattle.rules.specs.Class.{strikeOf, isOf, opposite, isVertical, between, isButterfly, isTrueButterfly, shapeOf}
+use Rattle.rules.specs.Class.{strikeOf, isOf, opposite, isVertical, between, isButterfly, isTrueButterfly, isBox, shapeOf}
 use Rattle.rules.proofs.Tests.{joined}
+use Rattle.keys.specs.Tags.{legAt, legsIn}
 use Rattle.strikes.proofs.Listed.{shown}
 use Rattle.shape.specs.Box.{boxSeries, boxSides}
 
@@ -95,20 +94,36 @@ module _ (a m b : Leg) {low high : ℕ}
       go true e = let f = eqb-true twice sum e in eq-eqb low high (omega arith)
       go false e = ne-eqb low high (λ f. eqb-false twice sum e (omega arith))
 
--- The first `n` of some legs, for the numbers that the code takes together.
-module _ (a b c d e : Leg) (r : List Leg) where
-  abbrev these : List Leg
-  these = a ∷ b ∷ c ∷ d ∷ e ∷ r
+-- five legs and more have no shape
+shape-none : (a b c d e : Leg) (r : List Leg) (n : ℕ) → 4 < n → 0 ≡ shapeOf (take n (a ∷ b ∷ c ∷ d ∷ e ∷ r))
+unfolding shapeOf
+shape-none a b c d e r zero h = absurd (omega arith)
+shape-none a b c d e r (suc zero) h = absurd (omega arith)
+shape-none a b c d e r (suc (suc zero)) h = absurd (omega arith)
+shape-none a b c d e r (suc (suc (suc zero))) h = absurd (omega arith)
+shape-none a b c d e r (suc (suc (suc (suc zero)))) h = absurd (omega arith)
+shape-none a b c d e r (suc (suc (suc (suc (suc n))))) h = refl
 
-  shape-none : (n : ℕ) → (n ≡ 2 → ⊥) → (n ≡ 3 → ⊥) → (n ≡ 4 → ⊥) → 0 ≡ shapeOf (take n these)
-  unfolding shapeOf
-  shape-none zero f g h = refl
-  shape-none (suc zero) f g h = refl
-  shape-none (suc (suc zero)) f g h = absurd (f refl)
-  shape-none (suc (suc (suc zero))) f g h = absurd (g refl)
-  shape-none (suc (suc (suc (suc zero)))) f g h = absurd (h refl)
-  shape-none (suc (suc (suc (suc (suc n))))) f g h = refl
+-- The shape by the legs that the code takes: no shape looks at a root, so that of root 0 is that of any other.
+module _ (tags units : List ℕ) (long : length tags ≡ 16) (full : length units ≡ 16) (n : ℕ) where
+  -- the leg that the code takes
+  abbrev taken : ℕ → Leg
+  taken i = legAt 0 false (getD tags i 0) (getD units i 0)
 
-module _ (us : Legs) (long : length (us .legs) ≡ 16) where
-  pub shape-other : (us .len ≡ 2 → ⊥) → (us .len ≡ 3 → ⊥) → (us .len ≡ 4 → ⊥) → 0 ≡ shapeOf (legsIn us)
-  shape-other f g h = shown us long shapeOf (us .len) refl (shape-none _ _ _ _ _ _ (us .len) f g h)
+  abbrev Shape : ℕ → Type 0
+  Shape r = (root : ℕ) → r ≡ shapeOf (legsIn root false n tags units)
+
+  pub shape-more : 4 < n → Shape 0
+  shape-more h root = shown tags units long full root shapeOf n n refl (shape-none _ _ _ _ _ _ n h)
+
+  pub shape-two : {a b : Leg} {r : ℕ} → n ≡ 2 → a ≡ taken 0 → b ≡ taken 1 → r ≡ shapeOf (a ∷ b ∷ []) → Shape r
+  unfolding shapeOf isVertical
+  shape-two h a b r root = shown tags units long full root shapeOf n 2 h (r ∙ (λ i. shapeOf (a i ∷ b i ∷ [])))
+
+  pub shape-three : {a b c : Leg} {r : ℕ} → n ≡ 3 → a ≡ taken 0 → b ≡ taken 1 → c ≡ taken 2 → r ≡ shapeOf (a ∷ b ∷ c ∷ []) → Shape r
+  unfolding shapeOf isButterfly
+  shape-three h a b c r root = shown tags units long full root shapeOf n 3 h (r ∙ (λ i. shapeOf (a i ∷ b i ∷ c i ∷ [])))
+
+  pub shape-four : {a b c d : Leg} {r : ℕ} → n ≡ 4 → a ≡ taken 0 → b ≡ taken 1 → c ≡ taken 2 → d ≡ taken 3 → r ≡ shapeOf (a ∷ b ∷ c ∷ d ∷ []) → Shape r
+  unfolding shapeOf isBox
+  shape-four h a b c d r root = shown tags units long full root shapeOf n 4 h (r ∙ (λ i. shapeOf (a i ∷ b i ∷ c i ∷ d i ∷ [])))

@@ -3,17 +3,20 @@ use amounts::pick;
 use choice::both;
 use choice::either;
 use choice::negated;
+use keys::leg_at;
 use rules::Leg;
-use rules::Legs;
 use rules::Series;
 use strikes::above_lower;
 use strikes::below_higher;
 ghost use mathlib.Core.Path.{_≡_};
+ghost use mathlib.Core.Bool.{false};
 ghost use mathlib.Core.List.{[], _∷_};
+ghost use Prim.Native.Nat.{ℕ, _≤_};
+ghost use lib.ListN.{length};
 ghost use Rattle.rules.specs.Lists.{every};
 ghost use Rattle.rules.specs.Pairing.{oneExpiry};
-ghost use Rattle.rules.specs.Order.{legsIn};
 ghost use Rattle.rules.specs.Class.{opposite, isVertical, between, isButterfly, isTrueButterfly, isBox, shapeOf};
+ghost use Rattle.keys.specs.Tags.{legsIn};
 ghost use Rattle.shape.specs.Box.{boxSeries, boxSides};
 
 fn all_four(a: bool, b: bool, c: bool, d: bool) -> bool
@@ -144,23 +147,23 @@ fn shape_of_four(p: Leg, q: Leg, d: Leg, c: Leg) -> u64
     pick(is_box(p, q, d, c), 4, 0)
 }
 
-// The shape of unit legs in the first walk's sequence.
-pub fn shape_of(us: Legs) -> u64
-    ensures { λ r. ⌜ r ≡ shapeOf (legsIn us) ⌝ }
+// The shape of unit legs in the first walk's sequence. No shape has more than four legs.
+pub fn shape_of(tags: &[u64; 16], units: &[u64; 16], n: usize) -> u64
+    requires { ⌜ (2 ≤ n) × (length (now tags) ≡ 16) × (length (now units) ≡ 16) ⌝ }
+    ensures { λ r. ⌜ ((root : ℕ) → r ≡ shapeOf (legsIn root false n (now (tags .entry)) (now (units .entry)))) ⌝ }
 {
-    let n = us.len;
-    let a = us.legs[0];
-    let b = us.legs[1];
-    let c = us.legs[2];
-    let d = us.legs[3];
+    if 4 < n {
+        return 0;
+    }
+    let a = leg_at(tags[0], units[0]);
+    let b = leg_at(tags[1], units[1]);
     if n == 2 {
         return shape_of_two(a, b);
     }
+    let c = leg_at(tags[2], units[2]);
     if n == 3 {
         return shape_of_three(a, b, c);
     }
-    if n == 4 {
-        return shape_of_four(a, b, c, d);
-    }
-    0
+    let d = leg_at(tags[3], units[3]);
+    shape_of_four(a, b, c, d)
 }

@@ -1,44 +1,41 @@
 -- M as the code computes it.
-use mathlib.Core.Path.{_≡_, refl}
+use mathlib.Core.Path.{_≡_, refl, ap₂, _∙_}
 use mathlib.Core.List.{List, _∷_}
-use mathlib.Core.Bool.{cond}
-use Prim.Native.Nat.{ℕ, zero, suc, _+_, _-_, min}
+use mathlib.Core.Bool.{false}
+use Prim.Native.Nat.{ℕ, zero, suc, _+_, _-_, _≤_, min}
 use native.Mathlib.Omega.{arith}
-use lib.Dec.{eqb, ltb}
-use lib.ListN.{length, take, drop}
-use borrow.Author.Tests.{ne-eqb, le-ltb}
+use lib.ListN.{length, take, getD}
 use Rattle.rules.specs.declared.Leg.{Leg}
-use Rattle.rules.specs.declared.Legs.{Legs}
-use Rattle.rules.specs.Order.{legsIn}
 use Rattle.rules.specs.Class.{strikeOf}
 use Rattle.rules.specs.Checks.{maximumOf}
-use Rattle.strikes.proofs.Listed.{at, shown}
+use Rattle.keys.specs.Tags.{legAt, legsIn}
+use Rattle.strikes.proofs.Listed.{shown}
 
--- The first `n` of some legs, for the numbers that the code takes together.
-module _ (a b c d e : Leg) (r : List Leg) where
-  abbrev these : List Leg
-  these = a ∷ b ∷ c ∷ d ∷ e ∷ r
+-- four legs and more
+maximum-more : (p q d c : Leg) (r : List Leg) (n : ℕ) → 4 ≤ n → strikeOf d - strikeOf c ≡ maximumOf (take n (p ∷ q ∷ d ∷ c ∷ r))
+unfolding maximumOf
+maximum-more p q d c r zero h = absurd (omega arith)
+maximum-more p q d c r (suc zero) h = absurd (omega arith)
+maximum-more p q d c r (suc (suc zero)) h = absurd (omega arith)
+maximum-more p q d c r (suc (suc (suc zero))) h = absurd (omega arith)
+maximum-more p q d c r (suc (suc (suc (suc n)))) h = refl
 
-  maximum-these : (n : ℕ)
-      → cond (ltb n 2) 0 (cond (eqb n 2) ((strikeOf a - strikeOf b) + (strikeOf b - strikeOf a)) (cond (eqb n 3) (strikeOf b - min (strikeOf a) (strikeOf c)) (strikeOf c - strikeOf d)))
-      ≡ maximumOf (take n these)
+module _ (tags : List ℕ) (long : length tags ≡ 16) (n : ℕ) where
+  -- the strike of a leg: neither root nor contracts are looked at
+  abbrev strike : ℕ → ℕ
+  strike i = strikeOf (legAt 0 false (getD tags i 0) 0)
+
+  -- what M is, of any root and any contracts
+  abbrev pub Maximum : ℕ → Type 0
+  Maximum r = (root : ℕ) (units : List ℕ) → length units ≡ 16 → r ≡ maximumOf (legsIn root false n tags units)
+
+  pub maximum-two : {a b r : ℕ} → n ≡ 2 → a ≡ strike 0 → b ≡ strike 1 → r ≡ (a - b) + (b - a) → Maximum r
   unfolding maximumOf
-  maximum-these zero = refl
-  maximum-these (suc zero) = refl
-  maximum-these (suc (suc zero)) = refl
-  maximum-these (suc (suc (suc zero))) = refl
-  maximum-these (suc (suc (suc (suc n)))) =
-      let m = suc (suc (suc (suc n))) in
-      rw (le-ltb m 2 (omega arith), ne-eqb m 2 (λ f. omega arith), ne-eqb m 3 (λ f. omega arith))
+  maximum-two h a b r root units full = shown tags units long full root maximumOf n 2 h (r ∙ ap₂ (λ (x y : ℕ). (x - y) + (y - x)) a b)
 
-module _ (us : Legs) (long : length (us .legs) ≡ 16) where
-  pub maximum : {x y z p q r : ℕ}
-      → x ≡ (strikeOf (at us long 0) - strikeOf (at us long 1)) + (strikeOf (at us long 1) - strikeOf (at us long 0))
-      → y ≡ strikeOf (at us long 1) - min (strikeOf (at us long 0)) (strikeOf (at us long 2))
-      → z ≡ strikeOf (at us long 2) - strikeOf (at us long 3)
-      → p ≡ cond (eqb (us .len) 3) y z
-      → q ≡ cond (eqb (us .len) 2) x p
-      → r ≡ cond (ltb (us .len) 2) 0 q
-      → r ≡ maximumOf (legsIn us)
-  maximum x y z p q r =
-      cc (shown us long maximumOf (us .len) refl (maximum-these (at us long 0) (at us long 1) (at us long 2) (at us long 3) (at us long 4) (drop 5 (us .legs)) (us .len)))
+  pub maximum-three : {a b c r : ℕ} → n ≡ 3 → a ≡ strike 0 → b ≡ strike 1 → c ≡ strike 2 → r ≡ b - min a c → Maximum r
+  unfolding maximumOf
+  maximum-three h a b c r root units full = shown tags units long full root maximumOf n 3 h (r ∙ ap₂ _-_ b (ap₂ min a c))
+
+  pub maximum-four : {c d r : ℕ} → 4 ≤ n → c ≡ strike 2 → d ≡ strike 3 → r ≡ c - d → Maximum r
+  maximum-four h c d r root units full = shown tags units long full root maximumOf n n refl (r ∙ ap₂ _-_ c d ∙ maximum-more _ _ _ _ _ n h)

@@ -1,4 +1,3 @@
-pub mod Zip
 pub mod Tagging
 pub mod Walking
 pub mod Numbered

@@ -1,18 +1,20 @@
 -- The turns of both loops, on tags and open contracts.
 use mathlib.Core.Path.{_≡_, refl, sym, ap, _∙_}
-use mathlib.Core.List.{List, _∷_, _++_}
+use mathlib.Core.List.{List, [], _∷_, _++_}
 use mathlib.Core.Bool.{Bool}
-use Prim.Native.Nat.{ℕ, _+_, _-_, _/_, _<_, _≤_}
+use Prim.Native.Nat.{ℕ, zero, suc, _+_, _-_, _/_, _<_, _≤_}
 use native.Mathlib.Omega.{arith}
 use native.Mathlib.Nat.{sub-zero}
 use lib.ListN.{length, take, drop, getD, set}
-use lib.Seq.{set-getD}
+use lib.Seq.{set-getD, getD-take, length-take-le}
 use Rattle.rules.specs.declared.Leg.{Leg}
+use Rattle.rules.specs.Lists.{All}
 use Rattle.rules.specs.Pairing.{Reached, less, pairOf, matched, reach, walk}
 use Rattle.rules.specs.Order.{noLeg}
+use Rattle.keys.specs.Tags.{groupOf, legAt, legsFrom, Tagged}
 use Rattle.tagged.specs.declared.PairTally.{PairTally}
-use Rattle.tagged.specs.Tags.{legAt, legsFrom, together, Tagged, matchedAt, noteAt, none, noted, reached}
-use Rattle.tagged.proofs.Zip.{zip-length, zip-at, zip-set}
+use Rattle.tagged.specs.Tags.{together, matchedAt, noteAt, none, noted, reached}
+use Rattle.keys.proofs.Zip.{zip-length, zip-at, zip-set}
 use Rattle.tagged.proofs.Tagging.{matched-tags, note-tags, matched-group}
 use Rattle.tagged.proofs.Walking.{View, view, start-legs, start-tally, met, over, put, walked-legs, walked-tally}
 
@@ -30,7 +32,23 @@ note-none : (t : PairTally) (second : Bool) (tx ty : ℕ) → t ≡ noteAt t sec
 unfolding noteAt
 note-none t second tx ty = refl
 
-module _ (tags : List ℕ) (tg : Tagged tags) (n : ℕ) (fits : n ≤ 16) (second : Bool) (root : ℕ) where
+module _ (P : ℕ → Type 0) where
+  all-at : (xs : List ℕ) → All P xs → (i : ℕ) → i < length xs → P (getD xs i 0)
+  all-at [] h i l = absurd (omega arith)
+  all-at (x ∷ xs) h zero l = h .0
+  all-at (x ∷ xs) h (suc i) l = all-at xs (h .1) i (omega arith)
+
+module _ (tags : List ℕ) (n : ℕ) (tg : Tagged n tags) where
+  -- the bound of the tag at `i`
+  pub tag-at-small : (i : ℕ) → i < n → getD tags i 0 < 40000000000000000
+  tag-at-small i h =
+      let few : n ≤ length tags = omega (arith, tg .few, tg .full) in
+      rw (← getD-take n tags i 0 h) (all-at (λ t. t < 40000000000000000) (take n tags) (tg .small) i (omega (arith, length-take-le n tags few)))
+
+module _ (tags : List ℕ) (n : ℕ) (tg : Tagged n tags) (second : Bool) (root : ℕ) where
+  fits : n ≤ 16
+  fits = tg .few
+
   abbrev legs : List ℕ → List Leg
   legs left = legsFrom root second tags left
 
@@ -48,9 +66,9 @@ module _ (tags : List ℕ) (tg : Tagged tags) (n : ℕ) (fits : n ≤ 16) (secon
       let ty = getD tags j 0 in
       let y = getD left j 0 in
       let is = leg-is left j l (omega arith) in
-      let g = matched-tags root second tx ty small (tg .small j) x y in
+      let g = matched-tags root second tx ty small (tag-at-small tags n tg j h) x y in
       let e₁ : m ≡ matched (together second) (legAt root second tx x) (getD (legs left) j noLeg) = em ∙ sym g ∙ ap (matched (together second) (legAt root second tx x)) (sym is) in
-      let one : 0 < m → tx / 200000000 ≡ ty / 200000000 = λ p. matched-group tx x ty y (rw em at p) in
+      let one : 0 < m → groupOf tx ≡ groupOf ty = λ p. matched-group tx x ty y (rw em at p) in
       let e₂ : t′ ≡ noted t (pairOf (legAt root second tx x) (getD (legs left) j noLeg) m) = et ∙ sym (note-tags t root second tx x ty y m one) ∙ ap (λ (w : Leg). noted t (pairOf (legAt root second tx x) w m)) (sym is) in
       let e₃ : legAt root second ty (y - m) ≡ less (getD (legs left) j noLeg) m = ap (λ (w : Leg). less w m) (sym is) in
       let s : legs (set left j (y - m)) ≡ set (legs left) j (legAt root second ty (y - m)) = zip-set (legAt root second) tags left j 0 (y - m) (omega (arith, tg .full)) in

@@ -11,8 +11,9 @@ use Rattle.rules.specs.declared.Leg.{Leg}
 use Rattle.rules.specs.Lists.{sameBool}
 use Rattle.rules.specs.Pairing.{pairOf, matched, isDebit}
 use Rattle.rules.proofs.Tests.{and-both}
+use Rattle.keys.specs.Tags.{isBought, groupOf, seriesAt, legAt}
 use Rattle.tagged.specs.declared.PairTally.{PairTally}
-use Rattle.tagged.specs.Tags.{seriesAt, legAt, together, matchedAt, debitKeys, debitAt, oneMore, noteAt, noted}
+use Rattle.tagged.specs.Tags.{together, matchedAt, debitKeys, debitAt, oneMore, noteAt, noted}
 
 abbrev Small : ℕ → Type 0
 Small tag = tag < 40000000000000000
@@ -51,20 +52,16 @@ group-keys second k l hk hl = go second
     go true = ap (λ (b : Bool). b && eqb (k / 100000000 % 100000000) (l / 100000000 % 100000000)) digits ∙ both
     go false = ap (λ (b : Bool). b && eqb (k / 100000000 % 100000000) (l / 100000000 % 100000000)) digits ∙ both
 
--- the side's test
-side-digit : (a b : ℕ) → not (sameBool (eqb (a % 2) 1) (eqb (b % 2) 1)) ≡ not (eqb (a % 2) (b % 2))
-side-digit a b = ap not (call-digit (a % 2) (b % 2) (omega arith) (omega arith))
-
 module _ (root : ℕ) (second : Bool) (tx ty : ℕ) (hx : Small tx) (hy : Small ty) where
-  group : together second (seriesAt second (tx / 2)) (seriesAt second (ty / 2)) ≡ eqb (tx / 200000000) (ty / 200000000)
+  group : together second (seriesAt second (tx / 2)) (seriesAt second (ty / 2)) ≡ eqb (groupOf tx) (groupOf ty)
   group =
-      let a : tx / 2 / 100000000 ≡ tx / 200000000 = omega arith in
-      let b : ty / 2 / 100000000 ≡ ty / 200000000 = omega arith in
+      let a : tx / 2 / 100000000 ≡ groupOf tx = omega arith in
+      let b : ty / 2 / 100000000 ≡ groupOf ty = omega arith in
       group-keys second (tx / 2) (ty / 2) (omega arith) (omega arith) ∙ ap₂ eqb a b
 
   pub matched-tags : (x y : ℕ) → matched (together second) (legAt root second tx x) (legAt root second ty y) ≡ matchedAt tx x ty y
   unfolding matched matchedAt
-  matched-tags x y = ap (λ (b : Bool). cond b (min x y) 0) (ap₂ _&&_ group (side-digit tx ty))
+  matched-tags x y = ap (λ (b : Bool). cond b (min x y) 0) (ap (λ (g : Bool). g && not (sameBool (isBought tx) (isBought ty))) group)
 
 -- a pair of one group is a debit by its keys: of the first walk by the strike, of the second by the expiry
 first-debit : (b s : ℕ) → b / 100000000 ≡ s / 100000000 → (c : Bool)
@@ -103,7 +100,7 @@ turn : (second c : Bool) (k l : ℕ) → k / 100000000 ≡ l / 100000000
 turn second true k l e = debit-keys second k l e
 turn second false k l e = debit-keys second l k (sym e)
 
-pub note-tags : (t : PairTally) (root : ℕ) (second : Bool) (tx x ty y n : ℕ) → (0 < n → tx / 200000000 ≡ ty / 200000000) → noted t (pairOf (legAt root second tx x) (legAt root second ty y) n) ≡ noteAt t second tx ty n
+pub note-tags : (t : PairTally) (root : ℕ) (second : Bool) (tx x ty y n : ℕ) → (0 < n → groupOf tx ≡ groupOf ty) → noted t (pairOf (legAt root second tx x) (legAt root second ty y) n) ≡ noteAt t second tx ty n
 unfolding noteAt
 note-tags t root second tx x ty y n h = go (eqb n 0) refl
   where
@@ -118,20 +115,20 @@ note-tags t root second tx x ty y n h = go (eqb n 0) refl
     go false e =
         let z = eqb-false n 0 e in
         let g : tx / 2 / 100000000 ≡ ty / 2 / 100000000 = omega (arith, h (pos-of-ne-zero z)) in
-        ap (noted t) (pair-some (legAt root second tx x) (legAt root second ty y) n z) ∙ ap (oneMore t) (turn second (eqb (tx % 2) 1) (tx / 2) (ty / 2) g)
+        ap (noted t) (pair-some (legAt root second tx x) (legAt root second ty y) n z) ∙ ap (oneMore t) (turn second (isBought tx) (tx / 2) (ty / 2) g)
 
 -- what is matched is of one group
-pub matched-group : (tx x ty y : ℕ) → 0 < matchedAt tx x ty y → tx / 200000000 ≡ ty / 200000000
+pub matched-group : (tx x ty y : ℕ) → 0 < matchedAt tx x ty y → groupOf tx ≡ groupOf ty
 unfolding matchedAt
-matched-group tx x ty y h = go (eqb (tx / 200000000) (ty / 200000000)) refl (not (eqb (tx % 2) (ty % 2))) h
+matched-group tx x ty y h = go (eqb (groupOf tx) (groupOf ty)) refl (not (sameBool (isBought tx) (isBought ty))) h
   where
-    go : (a : Bool) → eqb (tx / 200000000) (ty / 200000000) ≡ a → (b : Bool) → 0 < cond (a && b) (min x y) 0 → tx / 200000000 ≡ ty / 200000000
-    go true e b k = eqb-true (tx / 200000000) (ty / 200000000) e
+    go : (a : Bool) → eqb (groupOf tx) (groupOf ty) ≡ a → (b : Bool) → 0 < cond (a && b) (min x y) 0 → groupOf tx ≡ groupOf ty
+    go true e b k = eqb-true (groupOf tx) (groupOf ty) e
     go false e b k = absurd (omega arith)
 
 pub matched-small : (tx x ty y : ℕ) → (matchedAt tx x ty y ≤ x) × (matchedAt tx x ty y ≤ y)
 unfolding matchedAt
-matched-small tx x ty y = go (eqb (tx / 200000000) (ty / 200000000) && not (eqb (tx % 2) (ty % 2)))
+matched-small tx x ty y = go (eqb (groupOf tx) (groupOf ty) && not (sameBool (isBought tx) (isBought ty)))
   where
     go : (b : Bool) → (cond b (min x y) 0 ≤ x) × (cond b (min x y) 0 ≤ y)
     go true = (omega arith, omega arith)

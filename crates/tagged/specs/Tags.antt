@@ -1,52 +1,29 @@
--- A walk's legs as numbers: a tag for each leg (its key in the walk's sequence, doubled, and one more where it is bought), and the contracts that it still has open.
+-- A walk on numbers: each leg's tag, and the contracts that it still has open.
 use mathlib.Core.Path.{_≡_}
-use mathlib.Core.List.{List, [], _∷_, _++_, zipWith}
+use mathlib.Core.List.{List, [], _∷_, _++_}
 use mathlib.Core.Bool.{Bool, false, cond, not, _&&_, _||_}
-use Prim.Native.Nat.{ℕ, _+_, _-_, _/_, _%_, _≤_, _<_, min}
+use Prim.Native.Nat.{ℕ, _+_, _/_, _≤_, min}
 use lib.ListN.{length, take, drop, getD}
 use lib.Dec.{eqb, ltb}
 use Rattle.rules.specs.declared.Series.{Series}
-use Rattle.rules.specs.declared.Leg.{Leg}
+use Rattle.rules.specs.Lists.{sameBool}
 use Rattle.rules.specs.Pairing.{Pair, Reached, reach, walk, oneExpiry, oneStrike, isDebit}
 use Rattle.rules.specs.Order.{noLeg}
+use Rattle.keys.specs.Tags.{isBought, groupOf, legsFrom, legsIn}
 use Rattle.tagged.specs.declared.PairTally.{PairTally}
-
--- the series that a key says: of the first walk, or of the second
-unfoldable pub seriesAt : Bool → ℕ → Series
-seriesAt second k =
-    let call = eqb (k / 10000000000000000) 1 in
-    let middle = k / 100000000 % 100000000 in
-    let low = k % 100000000 in
-    record {
-      call = call;
-      expiry = cond second (99999999 - low) middle;
-      strike = record { 0 = cond second middle (cond call (99999999 - low) low) };
-    }
-
--- the leg of a tag; all legs of an order have one root
-abbrev pub legAt : ℕ → Bool → ℕ → ℕ → Leg
-legAt root second tag size = record { root = root; series = seriesAt second (tag / 2); bought = eqb (tag % 2) 1; size = size }
-
-abbrev pub legsFrom : ℕ → Bool → List ℕ → List ℕ → List Leg
-legsFrom root second tags left = zipWith (legAt root second) tags left
 
 -- which series are walked together
 abbrev pub together : Bool → Series → Series → Bool
 together second s t = cond second (oneStrike s t) (oneExpiry s t)
 
--- sixteen tags, each of a key of type, eight digits and eight digits
-pub record Tagged (tags : List ℕ) : Type 0 where
-  pub full : length tags ≡ 16
-  pub small : (i : ℕ) → getD tags i 0 < 40000000000000000
-
 unfoldable pub matchedAt : ℕ → ℕ → ℕ → ℕ → ℕ
-matchedAt tx x ty y = cond (eqb (tx / 200000000) (ty / 200000000) && not (eqb (tx % 2) (ty % 2))) (min x y) 0
+matchedAt tx x ty y = cond (eqb (groupOf tx) (groupOf ty) && not (sameBool (isBought tx) (isBought ty))) (min x y) 0
 
 abbrev pub debitKeys : Bool → ℕ → ℕ → Bool
 debitKeys second buy sell = cond second (ltb buy sell) (ltb sell buy)
 
 abbrev pub debitAt : Bool → ℕ → ℕ → Bool
-debitAt second tx ty = cond (eqb (tx % 2) 1) (debitKeys second (tx / 2) (ty / 2)) (debitKeys second (ty / 2) (tx / 2))
+debitAt second tx ty = cond (isBought tx) (debitKeys second (tx / 2) (ty / 2)) (debitKeys second (ty / 2) (tx / 2))
 
 abbrev pub oneMore : PairTally → Bool → PairTally
 oneMore t d = record { pairs = t .pairs + 1; debit = t .debit || d; credit = t .credit || not d }
@@ -68,14 +45,13 @@ reached root tags left i n second =
     let legs = legsFrom root second tags left in reach (together second) (getD legs i noLeg) (drop (i + 1) (take n legs))
 
 pub record Reaches (tags left after : List ℕ) (i n : ℕ) (second : Bool) (t r : PairTally) : Type 0 where
-  pub legs : (root : ℕ) → let q = reached root tags left i n second in
-      take n (legsFrom root second tags after) ≡ take i (legsFrom root second tags left) ++ (q .leg ∷ q .legs)
+  pub legs : (root : ℕ) → let q = reached root tags left i n second in legsIn root second n tags after ≡ legsIn root second i tags left ++ (q .leg ∷ q .legs)
   pub tally : (root : ℕ) → r ≡ noted t (reached root tags left i n second .pairs)
   pub few : r .pairs ≤ t .pairs + 16
   pub full : length after ≡ 16
 
 -- the definition's walk: what is left, and the tally of the pairs
 pub record Walks (tags left after : List ℕ) (n : ℕ) (second : Bool) (r : PairTally) : Type 0 where
-  pub legs : (root : ℕ) → take n (legsFrom root second tags after) ≡ walk (together second) (take n (legsFrom root second tags left)) .legs
-  pub tally : (root : ℕ) → r ≡ noted none (walk (together second) (take n (legsFrom root second tags left)) .pairs)
+  pub legs : (root : ℕ) → legsIn root second n tags after ≡ walk (together second) (legsIn root second n tags left) .legs
+  pub tally : (root : ℕ) → r ≡ noted none (walk (together second) (legsIn root second n tags left) .pairs)
   pub full : length after ≡ 16

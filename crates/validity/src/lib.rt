@@ -1,74 +1,38 @@
-// The refusals of an order record: the first number that applies, and the legs as read.
+// The refusals of an order record: the first number that applies. Reading finds the first three.
 use chain::otherwise;
 use choice::negated;
+use keys::is_bought;
 use limits::market_holds;
 use limits::settings_hold;
-use reading::legs_of;
+use reading::Read;
 use refusals::is_bad_price;
-use refusals::some_bad_count;
-use rules::Leg;
-use rules::Legs;
 use rules::Market;
-use rules::Mills;
-use rules::Order;
-use rules::Series;
 use rules::Settings;
-use series_refusals::some_other_root;
-use series_refusals::some_series_twice;
+use series_refusals::sorted_twice;
 ghost use mathlib.Core.Path.{_≡_};
-ghost use Rattle.validity.specs.Orders.{IsValidated};
+ghost use Prim.Native.Nat.{_≤_};
+ghost use lib.ListN.{length};
+ghost use Rattle.validity.specs.Orders.{Refuses};
 
-// The legs count only where the number is 0: the order is valid then.
-pub struct Validated {
-    pub number: u64,
-    pub legs: Legs,
-}
-
-// An order with no leg, or with too many: none is read.
-fn no_legs() -> Validated
-    ensures { λ r. ⌜ r .number ≡ 3 ⌝ }
+// Sorts the places of an order that is not refused. A simple order has one place, which says its side; of a complex one
+// no side is asked.
+pub fn refusal(
+    read: Read,
+    places: &mut [u64; 16],
+    roots: &[u64; 16],
+    st: Settings,
+    m: Market,
+) -> u64
+    requires { ⌜ (read .len ≤ 16) × (length (now places) ≡ 16) × (length (now roots) ≡ 16) ⌝ }
+    ensures { λ r. ⌜ Refuses st m read (now (places .entry)) (now (roots .entry)) (now (places .exit)) r ⌝ }
 {
-    let none = Leg {
-        root: 0,
-        series: Series {
-            call: false,
-            expiry: 0,
-            strike: Mills(0),
-        },
-        bought: false,
-        size: 0,
-    };
-    Validated {
-        number: 3,
-        legs: Legs {
-            legs: [none; 16],
-            len: 0,
-        },
-    }
-}
-
-pub fn validate(o: Order, st: Settings, m: Market) -> Validated
-    ensures { λ r. ⌜ IsValidated st m o r ⌝ }
-{
-    let len = o.len;
-    if len < 1 {
-        return no_legs();
-    }
-    if 16 < len {
-        return no_legs();
-    }
-    let t = o.terms;
-    let read = legs_of(o);
-    let legs = read.legs;
-    let n = otherwise(0, read.bad, 4);
-    let n = otherwise(n, some_bad_count(o), 5);
-    let n = otherwise(n, some_series_twice(legs), 6);
-    let n = otherwise(n, some_other_root(legs), 7);
-    let n = otherwise(n, is_bad_price(t, legs), 8);
+    let t = read.terms;
+    let legs = read.len;
+    let bought = is_bought(places[0] / 16);
+    let twice = sorted_twice(places, roots, legs, read.other);
+    let n = otherwise(read.number, twice, 6);
+    let n = otherwise(n, read.other, 7);
+    let n = otherwise(n, is_bad_price(t, bought, legs), 8);
     let n = otherwise(n, negated(settings_hold(st)), 9);
-    let n = otherwise(n, negated(market_holds(m)), 10);
-    Validated {
-        number: n,
-        legs: legs,
-    }
+    otherwise(n, negated(market_holds(m)), 10)
 }

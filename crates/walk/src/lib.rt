@@ -1,23 +1,25 @@
-// One walk over legs that are listed latest walked first. A leg's tag is its key in the walk's sequence, doubled, and
-// one more where it is bought: so the group is the tag without the key's last eight digits and the side.
+// One walk over legs that are listed latest walked first, each by its tag in the walk's sequence (crate `keys`).
 use amounts::pick;
 use amounts::smaller;
 use choice::both;
 use choice::choose;
 use choice::either;
 use choice::negated;
+use keys::group_of;
+use keys::is_bought;
 use tagged::PairTally;
 ghost use mathlib.Core.Path.{_≡_};
 ghost use Prim.Native.Nat.{_+_, _-_, _≤_, _<_};
 ghost use lib.ListN.{length};
-ghost use Rattle.tagged.specs.Tags.{Tagged, matchedAt, debitKeys, noteAt, Reaches, Walks};
+ghost use Rattle.keys.specs.Tags.{Tagged};
+ghost use Rattle.tagged.specs.Tags.{matchedAt, debitKeys, noteAt, Reaches, Walks};
 
 // How many contracts of two legs are matched: those of one group and of two sides.
 fn matched(tx: u64, x: u64, ty: u64, y: u64) -> u64
     ensures { λ r. ⌜ r ≡ matchedAt tx x ty y ⌝ }
 {
     pick(
-        both(tx / 200000000 == ty / 200000000, negated(tx % 2 == ty % 2)),
+        both(group_of(tx) == group_of(ty), is_bought(tx) != is_bought(ty)),
         smaller(x, y),
         0,
     )
@@ -39,7 +41,7 @@ fn note(t: PairTally, second: bool, tx: u64, ty: u64, n: u64) -> PairTally
         return t;
     }
     let d = choose(
-        tx % 2 == 1,
+        is_bought(tx),
         debit_keys(second, tx / 2, ty / 2),
         debit_keys(second, ty / 2, tx / 2),
     );
@@ -59,7 +61,7 @@ fn reach(
     second: bool,
     t: PairTally,
 ) -> PairTally
-    requires { ⌜ Tagged (now tags) × (length (now left) ≡ 16) × (i < n) × (n ≤ 16) × (t .pairs < 900) ⌝ }
+    requires { ⌜ Tagged n (now tags) × (length (now left) ≡ 16) × (i < n) × (t .pairs < 900) ⌝ }
     ensures { λ r. ⌜ Reaches (now (tags .entry)) (now (left .entry)) (now (left .exit)) i n second t r ⌝ }
 {
     let tx = tags[i];
@@ -85,7 +87,7 @@ fn reach(
 
 // The walk over the first n legs: from the last to the first.
 pub fn walk(tags: &[u64; 16], left: &mut [u64; 16], n: usize, second: bool) -> PairTally
-    requires { ⌜ Tagged (now tags) × (length (now left) ≡ 16) × (n ≤ 16) ⌝ }
+    requires { ⌜ Tagged n (now tags) × (length (now left) ≡ 16) ⌝ }
     ensures { λ r. ⌜ Walks (now (tags .entry)) (now (left .entry)) (now (left .exit)) n second r ⌝ }
 {
     let mut t = PairTally {

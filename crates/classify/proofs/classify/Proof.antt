@@ -1,51 +1,34 @@
--- The sorted legs are as valid as those that came.
-use mathlib.Core.Path.{ap, ap₂, _∙_}
-use lib.ListN.{length}
-use Rattle.rules.specs.Order.{legsIn, units}
-use Rattle.rules.specs.Pairing.{Walked, bothWalks}
-use Rattle.rules.specs.Class.{shapeOf, pairClass, classWith}
-use Rattle.rules.specs.Valid.{ValidLegs}
-use Rattle.classify.proofs.Valid.{sortable, walkable, all-positive, sorted-valid}
+-- Each number is its definition's, and the counts are those of the unit legs.
+use borrow.Author.Needs.{needs}
+use lib.ListN.{take}
+use Rattle.classify.proofs.Laws.{legs-units, all-positive, classed}
 use Rattle.classify.proofs.classify.Statement.{statement}
 use Rattle.classify.proofs.classify.Tie as tie
 
-valid-after : (c : tie.After-by-strike) → ValidLegs (c .by-strike .result)
-valid-after c = sorted-valid _ _ (c .before .pre) (c .by-strike .ensures .0) (c .by-strike .ensures .1)
-
-by-strike-requires : tie.Need-by-strike-requires
-by-strike-requires c κs = sortable _ (c .pre)
-
 units-requires : tie.Need-units-requires
-units-requires c κs =
-    let v = valid-after c in
-    (v .few, all-positive (legsIn (c .by-strike .result)) (v .legs .each))
+units-requires c κs = let s = c .before .before in let v = s .pre .0 in (v .valid .few, v .full, s .pre .2, all-positive (take (s .args .n) (s .args .left .now)) (v .counts))
 
 both-walks-requires : tie.Need-both-walks-requires
-both-walks-requires c κs = walkable _ (valid-after (c .before))
+both-walks-requires c κs = let v = c .before .before .before .before .pre .0 in (v .valid, v .full, v .apart)
 
 returns : tie.Need-returns
 returns c =
-    let s = c .before .before .before .before .by-strike .ensures in
-    let u = c .before .before .before .units .ensures in
-    let w = c .before .before .both-walks .ensures in
-    let us = u .0 ∙ ap units (s .0) in
-    let e = c .before .before .before .before .before .args .european in
-    let walked = ap (bothWalks e) (s .0) in
-    record {
-      counts = us;
-      len = u .1 ∙ s .1;
-      class = c .before .class-of .ensures ∙ ap₂ classWith us (w .class ∙ ap pairClass walked);
-      shape = c .shape-of .ensures ∙ ap shapeOf us;
-      pairings = w .pairings ∙ ap (λ (x : Walked). length (x .pairs)) walked;
-    }
+    let u = c .before .before .before .before .before .before in
+    let s = u .before .before .before in
+    let a = s .args in
+    let v = s .pre .0 in
+    let full = u .units .ensures .1 in
+    let w = c .before .before .before .before .both-walks .ensures in (
+      λ root. record {
+        counts = legs-units root (a .n) (a .tags .now) (a .left .now) _ (v .valid .full) (v .full) full (u .units .ensures .0);
+        class = classed _ _ (c .before .before .class-of .ensures root) (w root .class);
+        shape = c .shape-of .ensures root;
+        pairings = w root .pairings;
+      },
+      full,
+    )
 
 pub classify-spec : {M : Type 1} → statement M
 classify-spec =
     tie.close
-    (tie.spec
-    by-strike-requires
-    units-requires
-    both-walks-requires
-    (λ c κs. tt)
-    (λ c κs. tt)
-    returns)
+    (tie.spec units-requires both-walks-requires (λ c κs. search needs) (λ c κs. search needs) returns)

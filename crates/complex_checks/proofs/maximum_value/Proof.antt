@@ -1,21 +1,33 @@
 -- A shape with a maximum, which the strikes bound.
+use borrow.Author.Needs.{needs}
 use native.Mathlib.Omega.{arith}
-use Rattle.rules.specs.Order.{legsIn}
+use Prim.Native.Nat.{_≤_}
 use Rattle.complex_checks.proofs.Laws.{maximum-bound, maximum-tested, maximum-untested}
 use Rattle.complex_checks.proofs.maximum_value.Statement.{statement}
 use Rattle.complex_checks.proofs.maximum_value.Tie as tie
 
+-- M, as of sixteen unit counts: the tags themselves are so many
+bound : (c : tie.After-maximum-of) → c .maximum-of .result ≤ 99999999
+bound c =
+    let s = c .before .before .before in
+    let tags = s .args .tags .now in
+    omega (arith, c .maximum-of .ensures 0 tags (s .pre .2), maximum-bound 0 (s .args .n) tags tags)
+
 allowance-requires : tie.Need-allowance-requires
-allowance-requires c κs = let s = c .before .before .before in (s .pre .0 .settings, rw (c .maximum-of .ensures) (maximum-bound (legsIn (s .args .us)) (s .pre .0 .each)))
+allowance-requires c κs = (c .before .before .before .pre .0, bound c)
 
 add-result : tie.Need-add-result
-add-result c = let s = c .before .before .before .before in omega (arith, c .allowance .ensures .1, c .before .maximum-of .ensures, maximum-bound (legsIn (s .args .us)) (s .pre .0 .each))
+add-result c = omega (arith, c .allowance .ensures .1, bound (c .before))
 
 returns : tie.Need-returns
-returns c = let s = c .before .before .before .before .before in maximum-tested (s .args .st) (s .args .t) (legsIn (s .args .us)) (s .pre .1) (c .before .before .before .before .has-maximum .ensures) (c .before .before .before .if1 .taken) (c .before .before .maximum-of .ensures) (c .before .allowance .ensures .0)
+returns c root units full shape =
+    let s = c .before .before .before .before .before in
+    maximum-tested (s .args .st) (s .args .t) _ shape (c .before .before .before .before .has-maximum .ensures) (c .before .before .before .if1 .taken) (c .before .before .maximum-of .ensures root units full) (c .before .allowance .ensures .0)
 
 returns-2 : tie.Need-returns-2
-returns-2 c = let s = c .before .before in maximum-untested (s .args .st) (s .args .t) (legsIn (s .args .us)) (s .pre .1) (c .before .has-maximum .ensures) (c .if1 .left)
+returns-2 c root units full shape =
+    let s = c .before .before in
+    maximum-untested (s .args .st) (s .args .t) _ shape (c .before .has-maximum .ensures) (c .if1 .left)
 
 pub maximum-value-spec : {M : Type 1} → statement M
-maximum-value-spec = tie.close (tie.spec _ _ allowance-requires add-result returns returns-2)
+maximum-value-spec = tie.close (tie.spec _ (λ c κs. search needs) allowance-requires add-result returns returns-2)

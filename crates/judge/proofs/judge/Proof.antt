@@ -1,58 +1,59 @@
+-- An order of one leg is simple, and every other complex.
+use borrow.Author.Needs.{needs}
 use native.Mathlib.Omega.{arith}
 use mathlib.Core.Path.{_≡_, sym, ap, _∙_}
-use mathlib.Core.List.{List, [], _∷_}
-use mathlib.Core.Bool.{true, not}
-use lib.ListN.{length, length-map, getD}
-use lib.Seq.{length-take-le}
+use mathlib.Core.List.{List}
+use mathlib.Core.Bool.{true, false, not}
+use lib.ListN.{length}
 use Rattle.rules.specs.declared.Leg.{Leg}
-use Rattle.rules.specs.declared.Legs.{Legs}
-use Rattle.rules.specs.Pairing.{byStrike}
+use Rattle.rules.specs.Order.{isSimple}
 use Rattle.rules.specs.Numbers.{judged}
-use Rattle.rules.specs.Order.{noLeg, legsIn, isSimple}
-use Rattle.laws.proofs.Simple.{simple-length}
-use Rattle.judge.proofs.Laws.{one-leg, first-size}
-use borrow.Author.Needs.{needs}
+use Rattle.laws.proofs.Simple.{simple-length, simple-same}
+use Rattle.keys.specs.Tags.{legsIn}
+use Rattle.judge.proofs.Laws.{legs-length, one-leg, complex-length}
 use Rattle.judge.proofs.judge.Statement.{statement}
 use Rattle.judge.proofs.judge.Tie as tie
 
-long : (c : tie.Start) → length (c .args .t4 .legs) ≡ 16
-long c = sym (length-map (c .args .t4 .legs) _) ∙ c .good .1 .1 .1 .0 .1 .1 .0 .1 .0 .1
-
--- the record's legs are as many as it says
-many : (c : tie.Start) → length (legsIn (c .args .t4)) ≡ c .args .t4 .len
-many c = length-take-le (c .args .t4 .len) (c .args .t4 .legs) (omega (arith, long c, c .pre .2 .few))
-
 module _ (c : tie.After-is-simple) where
-  abbrev l : Legs
-  l = c .before .args .t4
+  abbrev legs : List Leg
+  legs = let a = c .before .args in legsIn 0 false (a .n) (a .tags .now) (a .left .now)
 
-  asked : c .is-simple .result ≡ isSimple (c .before .args .t) (legsIn l)
-  asked = c .is-simple .ensures (legsIn l) (many (c .before))
+  many : length legs ≡ c .before .args .n
+  many = let a = c .before .args in legs-length 0 (a .n) (a .tags .now) (a .left .now) (c .before .pre .2)
 
-  one : c .is-simple .result ≡ true → legsIn l ≡ getD (l .legs) 0 noLeg ∷ []
-  one h = one-leg l noLeg (sym (many (c .before)) ∙ simple-length (c .before .args .t) (legsIn l) (sym asked ∙ h)) (omega (arith, long (c .before)))
+  asked : c .is-simple .result ≡ isSimple (c .before .args .t) legs
+  asked = c .is-simple .ensures legs many
+
+  one : c .is-simple .result ≡ true → c .before .args .n ≡ 1
+  one h = sym many ∙ simple-length (c .before .args .t) legs (sym asked ∙ h)
 
 judge-simple-requires : tie.Need-judge-simple-requires
 judge-simple-requires c κs =
     let q = c .before .before in
     let s = q .before in
-    let e = one q (c .before .if1 .taken) in
-    (s .pre .0, s .pre .1, first-size e (s .pre .2 .legs .each), ap (isSimple (s .args .t)) (sym e) ∙ sym (asked q) ∙ c .before .if1 .taken)
+    let a = s .args in
+    let h = c .before .if1 .taken in
+    let e = one-leg 0 (a .n) (a .tags .now) (a .left .now) (s .pre .2) (one q h) .0 in
+    (s .pre .0, s .pre .1, simple-same (a .t) _ (legs q) (ap length (sym e)) ∙ sym (asked q) ∙ h)
 
 returns : tie.Need-returns
-returns c =
+returns c root =
     let q = c .before .before .before in
-    let a = q .before .args in
-    c .judge-simple .ensures ∙ ap (λ (ls : List Leg). judged (a .st) (a .m) (a .t) (byStrike ls)) (sym (one q (c .before .before .if1 .taken)))
+    let s = q .before in
+    let a = s .args in
+    let o = one-leg root (a .n) (a .tags .now) (a .left .now) (s .pre .2) (one q (c .before .before .if1 .taken)) in
+    c .judge-simple .ensures root _ (o .1) ∙ ap (judged (a .st) (a .m) (a .t)) (sym (o .0))
 
 judge-complex-requires : tie.Need-judge-complex-requires
 judge-complex-requires c κs =
-    let q = c .before in
+    let q = c .before .before in
     let s = q .before in
-    (s .pre .0, s .pre .2, s .pre .3, ap not (sym (asked q) ∙ c .if1 .left))
+    let complex = ap not (sym (asked q) ∙ c .before .if1 .left) in
+    let more = complex-length (s .args .t) (legs q) complex in
+    (s .pre .0, s .pre .2, omega (arith, more, many q, s .pre .3), complex)
 
 returns-2 : tie.Need-returns-2
-returns-2 c = c .judge-complex .ensures _
+returns-2 c root = c .judge-complex .ensures root _
 
 pub judge-spec : {M : Type 1} → statement M
 judge-spec =

@@ -4,9 +4,9 @@ use mathlib.Core.Path.{_≡_, refl, sym, ap, _∙_}
 use mathlib.Core.Bool.{Bool}
 use Prim.Native.Nat.{ℕ, _≤_, _-_, _<_}
 use native.Mathlib.Omega.{arith}
-use lib.ListN.{take, drop}
+use lib.ListN.{drop}
+use Rattle.keys.specs.Tags.{legsIn}
 use Rattle.tagged.specs.declared.PairTally.{PairTally}
-use Rattle.tagged.specs.Tags.{legsFrom}
 use Rattle.loners.specs.Tallies.{aloneAt, allAlone}
 use Rattle.loners.proofs.Alone.{alone-turn, alone-end}
 use Rattle.loners.proofs.loners.Statement.{statement}
@@ -14,7 +14,7 @@ use Rattle.loners.proofs.loners.Tie as tie
 
 abbrev Inv-loop : tie.InvT-loop
 Inv-loop tags left n r₀ i₀ r i =
-    ((root : ℕ) (second : Bool) → allAlone r (drop i (take n (legsFrom root second tags left))) ≡ allAlone r₀ (take n (legsFrom root second tags left)))
+    ((root : ℕ) (second : Bool) → allAlone r (drop i (legsIn root second n tags left)) ≡ allAlone r₀ (legsIn root second n tags left))
     × (i ≤ n)
     × (r .pairs ≡ r₀ .pairs)
 

@@ -1,22 +1,38 @@
-use native.Mathlib.Omega.{arith}
-use mathlib.Core.Path.{sym, ap, _∙_}
-use Rattle.rules.specs.declared.SymbolParts.{SymbolParts}
-use Rattle.rules.proofs.Symbols.{read-not-21, read-of, read-outside}
+use mathlib.Core.Path.{_≡_, sym, _∙_}
+use mathlib.Core.List.{List}
+use mathlib.Core.Bool.{Bool}
+use Prim.Native.Nat.{ℕ}
+use lib.ListN.{length}
+use lib.Seq.{slice}
+use Rattle.rules.specs.Symbol.{isRoot}
+use Rattle.rules.proofs.Symbols.{read-not-21}
+use Rattle.symbol.proofs.Laws.{root-tested, root-valued, no-root}
 use borrow.Author.Needs.{needs}
 use Rattle.symbol.proofs.read.Statement.{statement}
 use Rattle.symbol.proofs.read.Tie as tie
 
+-- once the root is tested
+module _ (c : tie.After-is-root) where
+  abbrev bytes : List ℕ
+  bytes = c .before .before .before .before .before .before .before .before .before .args .s .now
+
+  long : length bytes ≡ 21
+  long = c .before .before .before .before .before .before .before .if1 .left
+
+  tested : {b : Bool} → c .is-root .result ≡ b → isRoot (slice 0 6 bytes) ≡ b
+  tested h = root-tested bytes long (c .is-root .ensures) h
+
 returns : tie.Need-returns
-returns c = rw (c .refused .ensures, read-not-21 (c .before .before .before .args .s .now) (c .before .if1 .taken))
+returns c = c .refused .ensures ∙ sym (read-not-21 _ (c .before .if1 .taken))
 
-is-symbol-requires : tie.Need-is-symbol-requires
-is-symbol-requires c κs = (omega arith, c .parts-of .ensures .0)
-
-returns-2 : tie.Need-returns-2
-returns-2 c = ap (λ (p : SymbolParts). record { number = 0; parts = p }) (c .before .before .parts-of .ensures .0) ∙ sym (read-of _ (omega arith) (sym (c .before .is-symbol .ensures) ∙ c .if2 .taken))
+read-after-requires : tie.Need-read-after-requires
+read-after-requires c κs =
+    let e = c .before .before .before .before .before .before .before in
+    let r = e .before in
+    (long r, root-valued (bytes r) (long r) (c .root-of .ensures), tested r (e .if2 .taken))
 
 returns-3 : tie.Need-returns-3
-returns-3 c = rw (c .refused2 .ensures, read-outside (c .before .before .before .before .before .before .args .s .now) (omega arith) (sym (c .before .before .is-symbol .ensures) ∙ c .before .if2 .left))
+returns-3 c = let r = c .before .before in c .refused2 .ensures ∙ sym (no-root (bytes r) (long r) (tested r (c .before .if2 .left)))
 
 pub read-spec : {M : Type 1} → statement M
 read-spec =
@@ -24,8 +40,21 @@ read-spec =
     (tie.spec
     (λ c κs. tt)
     returns
-    (λ c κs. search needs)
-    is-symbol-requires
-    returns-2
+    (λ c. search needs)
+    (λ c. search needs)
+    (λ c. search needs)
+    (λ c. search needs)
+    (λ c. search needs)
+    (λ c. search needs)
+    (λ c κs. tt)
+    (λ c. search needs)
+    (λ c. search needs)
+    (λ c. search needs)
+    (λ c. search needs)
+    (λ c. search needs)
+    (λ c. search needs)
+    (λ c κs. tt)
+    read-after-requires
+    (λ c. search needs)
     (λ c κs. tt)
     returns-3)

@@ -1,61 +1,50 @@
 -- The unit counts of the legs passed.
 use mathlib.Core.Path.{_≡_, refl, sym, _∙_}
 use mathlib.Core.List.{map}
-use Prim.Native.Nat.{_≤_, _-_, _<_}
+use Prim.Native.Nat.{_≤_, _-_, _/_}
 use native.Mathlib.Omega.{arith}
-use lib.ListN.{length, take, length-map, length-set}
+use lib.ListN.{length, take, getD, length-set}
 use lib.Seq.{length-take-le}
-use Rattle.rules.specs.Order.{divided, noLeg}
 use Rattle.loops.proofs.Filling.{fill-turn}
-use Rattle.unit_counts.proofs.Divisor.{divisor-positive, units-are}
+use Rattle.unit_counts.proofs.Divisor.{divisor-positive, units-read}
 use borrow.Author.Needs.{needs}
 use Rattle.unit_counts.proofs.units.Statement.{statement}
 use Rattle.unit_counts.proofs.units.Tie as tie
 
 abbrev Inv-loop : tie.InvT-loop
-Inv-loop l n divisor legs₀ i₀ legs i = (take i legs ≡ map (divided divisor) (take i (l .legs))) × (length legs ≡ 16) × (i ≤ n)
+Inv-loop sizes n counts₀ divisor i₀ counts i = (take i counts ≡ map (λ s. s / divisor) (take i sizes)) × (length counts ≡ 16) × (i ≤ n)
 
 abbrev μ-loop : tie.MeasureT-loop
-μ-loop l n divisor legs₀ i₀ legs i = n - i
-
-full : (c : tie.Start Inv-loop μ-loop) → length (c .args .t1 .legs) ≡ 16
-full c = sym (length-map (c .args .t1 .legs) _) ∙ c .good .0 .1 .1 .0 .1 .0 .1
+μ-loop sizes n counts₀ divisor i₀ counts i = n - i
 
 loop-holds : tie.Need-loop-holds Inv-loop μ-loop
-loop-holds c = (refl, full (c .before .before), omega arith)
+loop-holds c = (refl, c .before .pre .2, omega arith)
 
-element-copy-out-divided : tie.Need-element-copy-out-divided Inv-loop μ-loop
-element-copy-out-divided c = omega (arith, c .before .before .before .before .pre .0)
-
-divided-requires : tie.Need-divided-requires Inv-loop μ-loop
-divided-requires c κs =
-    let s = c .before .before .before .before .before in
-    let l = c .before .before .loop in
-    let n : length (take (s .args .t1 .len) (s .args .t1 .legs)) ≡ s .args .t1 .len = length-take-le (s .args .t1 .len) (s .args .t1 .legs) (omega (arith, full s, s .pre .0)) in
-    rw (c .before .before .before .before .common-divisor .ensures) (divisor-positive (take (s .args .t1 .len) (s .args .t1 .legs)) (omega (arith, n)) (s .pre .1))
-
-array-set-from-legs : tie.Need-array-set-from-legs Inv-loop μ-loop
-array-set-from-legs c = omega (arith, c .before .before .before .before .before .before .pre .0)
+div-counts : tie.Need-div-counts Inv-loop μ-loop
+div-counts c =
+    let s = c .before .before .before .before in
+    let k = c .before .before .before .common-divisor in
+    let n = length-take-le (s .args .n) (s .args .sizes .now) (omega (arith, s .pre)) in
+    divisor-positive (take (s .args .n) (s .args .sizes .now)) (k .result) (omega (arith, n)) (s .pre .3) (k .ensures)
 
 loop-again : tie.Need-loop-again Inv-loop μ-loop
 loop-again c =
-    let s = c .before .before .before .before .before .before in
-    let d = c .before .before .before .before .before .common-divisor .result in
-    let l = c .before .before .before .loop in
-    let h : l .i < s .args .t1 .len = omega arith in
-    let v = c .divided .result in (
-      fill-turn noLeg (divided d) (s .args .t1 .legs) (l .legs) (l .i) v (omega (arith, full s, s .pre .0)) (omega (arith, l .inv .1, s .pre .0)) (c .divided .ensures) (l .inv .0),
-      length-set (l .legs) (l .i) v ∙ l .inv .1,
+    let s = c .before .before .before .before in
+    let d = c .before .before .before .common-divisor .result in
+    let l = c .before .before .loop in
+    let v = getD (s .args .sizes .now) (l .i) 0 / d in (
+      fill-turn 0 (λ s. s / d) (s .args .sizes .now) (l .counts) (l .i) v (omega (arith, s .pre)) (omega (arith, l .inv .1, s .pre)) refl (l .inv .0),
+      length-set (l .counts) (l .i) v ∙ l .inv .1,
       omega arith,
     )
 
 returns : tie.Need-returns Inv-loop μ-loop
 returns c =
-    let s = c .before .before .before .before in
+    let s = c .before .before .before in
+    let k = c .before .before .common-divisor in
     let l = c .before .loop in
-    let k = c .before .before .before .common-divisor in
-    let e : l .i ≡ s .args .t1 .len = omega arith in
-    ((rw e at (l .inv .0)) ∙ units-are (take (s .args .t1 .len) (s .args .t1 .legs)) (k .result) (k .ensures), refl)
+    let e : l .i ≡ s .args .n = omega arith in
+    ((λ ls h. units-read ls (take (s .args .n) (s .args .sizes .now)) (k .result) h (k .ensures ls h) ∙ sym (rw e at (l .inv .0))), l .inv .1)
 
 pub units-spec : {M : Type 1} → statement M
 units-spec =
@@ -66,10 +55,10 @@ units-spec =
     (λ c κs. search needs)
     loop-holds
     (λ c. search needs)
-    element-copy-out-divided
-    divided-requires
     (λ c. search needs)
-    array-set-from-legs
+    div-counts
+    (λ c. search needs)
+    (λ c. search needs)
     (λ c. search needs)
     (λ c. search needs)
     loop-again

@@ -13,14 +13,15 @@ returns c = (rw (eq-eqb (c .before .args .n) 0 (c .if1 .taken)), omega arith)
 returns-2 : tie.Need-returns-2
 unfolding noteAt
 returns-2 c =
-    let a = c .before .before .before .before .before .before .before .before .args in
-    (rw (ne-eqb (a .n) 0 (c .before .before .before .before .before .before .before .if1 .left)) (cc), omega arith)
+    let else′ = c .before .before .before .before .before .before .before .before in
+    (rw (ne-eqb (else′ .before .args .n) 0 (else′ .if1 .left)) (cc), omega arith)
 
 pub note-spec : {M : Type 1} → statement M
 note-spec =
     tie.close
     (tie.spec
     returns
+    (λ c κs. tt)
     (λ c κs. tt)
     (λ c κs. tt)
     (λ c κs. tt)

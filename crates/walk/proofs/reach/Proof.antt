@@ -4,7 +4,7 @@ use Prim.Native.Nat.{ℕ, _≤_, _-_, _<_, _+_}
 use native.Mathlib.Omega.{arith}
 use lib.ListN.{length, getD, length-set}
 use Rattle.tagged.proofs.Tagging.{matched-small}
-use Rattle.tagged.proofs.Numbered.{inner, inner-turn, inner-skip, inner-legs, inner-tally}
+use Rattle.tagged.proofs.Numbered.{tag-at-small, inner, inner-turn, inner-skip, inner-legs, inner-tally}
 use borrow.Author.Needs.{needs}
 use Rattle.walk.proofs.reach.Statement.{statement}
 use Rattle.walk.proofs.reach.Tie as tie
@@ -43,9 +43,9 @@ loop-again c =
     let m = c .before .before .matched .result in
     let full : length (l .left) ≡ 16 = l .inv .3 in
     let h : l .j < a .n = omega arith in
-    let fits : a .n ≤ 16 = omega (arith, s .pre) in (
+    let small = tag-at-small (a .tags .now) (a .n) (s .pre .0) (a .i) (omega arith) in (
       (λ root.
-          inner-turn (a .tags .now) (s .pre .0) (a .n) fits (a .second) root (l .left) (l .r) (c .note .result) (getD (a .tags .now) (a .i) 0) (l .x) (l .j) m full (s .pre .0 .small (a .i)) h (c .before .before .matched .ensures) (c .note .ensures .0)
+          inner-turn (a .tags .now) (a .n) (s .pre .0) (a .second) root (l .left) (l .r) (c .note .result) (getD (a .tags .now) (a .i) 0) (l .x) (l .j) m full small h (c .before .before .matched .ensures) (c .note .ensures .0)
           ∙ l .inv .0 root),
       omega arith,
       omega arith,
@@ -59,9 +59,9 @@ loop-again-2 c =
     let a = s .args in
     let l = c .before .before .before .before .before .loop in
     let h : l .j < a .n = omega arith in
-    let fits : a .n ≤ 16 = omega (arith, s .pre) in (
+    let small = tag-at-small (a .tags .now) (a .n) (s .pre .0) (a .i) (omega arith) in (
       (λ root.
-          inner-skip (a .tags .now) (s .pre .0) (a .n) fits (a .second) root (l .left) (l .r) (getD (a .tags .now) (a .i) 0) (l .x) (l .j) (l .inv .3) (s .pre .0 .small (a .i)) h (sym (c .before .matched .ensures) ∙ c .if1 .left)
+          inner-skip (a .tags .now) (a .n) (s .pre .0) (a .second) root (l .left) (l .r) (getD (a .tags .now) (a .i) 0) (l .x) (l .j) (l .inv .3) small h (sym (c .before .matched .ensures) ∙ c .if1 .left)
           ∙ l .inv .0 root),
       omega arith,
       omega arith,
@@ -75,11 +75,10 @@ returns c =
     let a = s .args in
     let l = c .before .loop in
     let h : a .i < a .n = omega (arith, s .pre) in
-    let fits : a .n ≤ 16 = omega (arith, s .pre) in
     let last : l .j ≡ a .n = omega arith in
     record {
-      legs = λ root. inner-legs (a .tags .now) (s .pre .0) (a .n) fits (a .second) root (a .left .now) (l .left) (s .pre .1) (l .inv .3) (a .t) (l .r) (l .x) (a .i) (l .j) h last (l .inv .0 root);
-      tally = λ root. inner-tally (a .tags .now) (s .pre .0) (a .n) fits (a .second) root (a .left .now) (l .left) (s .pre .1) (l .inv .3) (a .t) (l .r) (l .x) (a .i) (l .j) h last (l .inv .0 root);
+      legs = λ root. inner-legs (a .tags .now) (a .n) (s .pre .0) (a .second) root (a .left .now) (l .left) (s .pre .1) (l .inv .3) (a .t) (l .r) (l .x) (a .i) (l .j) h last (l .inv .0 root);
+      tally = λ root. inner-tally (a .tags .now) (a .n) (s .pre .0) (a .second) root (a .left .now) (l .left) (s .pre .1) (l .inv .3) (a .t) (l .r) (l .x) (a .i) (l .j) h last (l .inv .0 root);
       few = omega arith;
       full = length-set (l .left) (a .i) (l .x) ∙ l .inv .3;
     }

@@ -18,7 +18,7 @@ abbrev μ-loop : tie.MeasureT-loop
 loop-holds : tie.Need-loop-holds Inv-loop μ-loop
 loop-holds c =
     let a = c .args in
-    ((λ root. outer-start (a .tags .now) (c .pre .0) (a .n) (c .pre .2) (a .second) root (a .left .now) (c .pre .1)), omega arith, c .pre .1, omega (arith, c .pre))
+    ((λ root. outer-start (a .tags .now) (a .n) (c .pre .0) (a .second) root (a .left .now) (c .pre .1)), omega arith, c .pre .1, omega (arith, c .pre .0 .few))
 
 loop-again : tie.Need-loop-again Inv-loop μ-loop
 loop-again c =
@@ -29,7 +29,7 @@ loop-again c =
     let back : l .i ≡ l .i - 1 + 1 = omega arith in
     let h : l .i - 1 < a .n = omega arith in (
       (λ root.
-          outer-turn (a .tags .now) (s .pre .0) (a .n) (s .pre .2) (a .second) root (a .left .now) (l .left) (c .reach .last .1 .0) (l .t) (c .reach .result) (l .i - 1) (s .pre .1) h (rw back at (l .inv .0 root)) (e .legs root) (e .tally root)),
+          outer-turn (a .tags .now) (a .n) (s .pre .0) (a .second) root (a .left .now) (l .left) (c .reach .last .1 .0) (l .t) (c .reach .result) (l .i - 1) (s .pre .1) h (rw back at (l .inv .0 root)) (e .legs root) (e .tally root)),
       omega arith,
       e .full,
       omega (arith, e .few),
@@ -45,7 +45,7 @@ reach-requires : tie.Need-reach-requires Inv-loop μ-loop
 reach-requires c κs =
     let s = c .before .before .before in
     let l = c .before .before .loop in
-    (s .pre .0, l .inv .2, omega arith, s .pre .2, omega arith)
+    (s .pre .0, l .inv .2, omega arith, omega (arith, s .pre .0 .few))
 
 pub walk-spec : {M : Type 1} → statement M
 walk-spec =

@@ -1,0 +1,5 @@
+pub mod Keys
+pub mod Zip
+pub mod Back
+pub mod Arranging
+pub mod Valid

@@ -1,0 +1,156 @@
+-- The legs passed are read, and stand in the arrays.
+use borrow.Author.Needs.{needs}
+use mathlib.Core.Path.{_≡_, refl, sym, ap, _∙_}
+use mathlib.Core.Bool.{Bool, true, cond, _||_}
+use Prim.Native.Nat.{ℕ, _-_, _≤_, _<_}
+use native.Mathlib.Omega.{arith}
+use lib.ListN.{length, take, getD, length-map, length-set}
+use borrow.Author.Tests.{not-false}
+use Rattle.rules.specs.Limits.{within}
+use Rattle.rules.specs.Order.{noRawLeg}
+use Rattle.rules.proofs.Tests.{not-eq, within-both}
+use Rattle.symbol.proofs.Laws.{root-valued}
+use Rattle.keys.specs.Tags.{placeOf}
+use Rattle.reading.proofs.Tags.{tag-none, tag-some}
+use Rattle.reading.proofs.Lengths.{symbol-length}
+use Rattle.reading.proofs.Reading.{AreRead, none-read, next-read}
+use Rattle.reading.proofs.Answers.{no-legs, bad-symbol, all-read}
+use Rattle.reading.proofs.read_legs.Statement.{statement}
+use Rattle.reading.proofs.read_legs.Tie as tie
+
+abbrev Inv-loop : tie.InvT-loop
+Inv-loop places₀ sizes₀ roots₀ o n t first₀ number₀ other₀ i₀ places sizes roots first number other i =
+    AreRead first₀ (take i (o .legs)) places sizes roots first number other
+    × (length places ≡ 16)
+    × (length sizes ≡ 16)
+    × (length roots ≡ 16)
+    × (i ≤ n)
+
+abbrev μ-loop : tie.MeasureT-loop
+μ-loop places₀ sizes₀ roots₀ o n t first₀ number₀ other₀ i₀ places sizes roots first number other i =
+    n - i
+
+-- ---- the record
+
+full : (c : tie.Start Inv-loop μ-loop) → length (c .args .t1 .legs) ≡ 16
+full c = sym (length-map (c .args .t1 .legs) _) ∙ c .good .0 .1 .1 .0 .1 .0 .1
+
+long : (c : tie.Start Inv-loop μ-loop) (i : ℕ) → i < 16 → length (getD (c .args .t1 .legs) i noRawLeg .symbol) ≡ 21
+long c i h = symbol-length (c .args .t1 .legs) _ i (omega (arith, full c)) (c .good .0 .1 .1 .0 .1 .1)
+
+some : (c : tie.Else1 Inv-loop μ-loop) → within 1 16 (c .before .before .before .before .args .t1 .len) ≡ true
+some c = sym (c .before .before .within .ensures) ∙ not-false _ (sym (c .before .negated .ensures) ∙ c .if1 .left)
+
+few : (c : tie.In-loop Inv-loop μ-loop) → c .before .loop .i < 16
+few c = omega (arith, c .loop-test .taken, within-both 1 16 (c .before .before .before .before .before .before .args .t1 .len) (some (c .before .before)) .1)
+
+-- ---- the loop
+
+returns : tie.Need-returns Inv-loop μ-loop
+returns c =
+    let t = c .before in
+    let s = t .before .before .before .before in
+    no-legs (s .args .t1) _ _ _ (s .pre .0) (s .pre .1) (s .pre .2) _ (c .read-of .ensures) (sym (t .before .before .within .ensures) ∙ not-eq _ (sym (t .before .negated .ensures) ∙ t .if1 .taken))
+
+loop-holds : tie.Need-loop-holds Inv-loop μ-loop
+loop-holds c =
+    let s = c .before .before .before .before in
+    (none-read _ (s .args .places .now) (s .args .sizes .now) (s .args .roots .now) (λ h. absurd (omega (arith, h))), s .pre .0, s .pre .1, s .pre .2, omega arith)
+
+slice-aggregate-tag-at : tie.Need-slice-aggregate-tag-at Inv-loop μ-loop
+slice-aggregate-tag-at c =
+    let l = c .before .before .before .before in
+    sym (long (l .before .before .before .before .before .before) (l .before .loop .i) (few l))
+
+tag-at-requires : tie.Need-tag-at-requires Inv-loop μ-loop
+tag-at-requires c κs =
+    let l = c .before .before .before .before in
+    let s = l .before .before .before .before .before .before in
+    let raw = getD (s .args .t1 .legs) (l .before .loop .i) noRawLeg in
+    let h = long s (l .before .loop .i) (few l) in
+    (l .before .loop .inv .0 .known, h, root-valued (raw .symbol) h (c .before .root-of .ensures))
+
+returns-2 : tie.Need-returns-2 Inv-loop μ-loop
+returns-2 c =
+    let t = c .before .before in
+    let l = t .before .before .before .before .before in
+    let s = l .before .before .before .before .before .before in
+    let v = l .before .loop in
+    let raw = getD (s .args .t1 .legs) (v .i) noRawLeg in
+    bad-symbol (s .args .t1) _ _ _ (v .inv .1) (v .inv .2) (v .inv .3) (some (l .before .before)) _ (c .read-of2 .ensures) (v .i) (l .loop-test .taken) (omega (arith, full s, few l)) (tag-none raw _ (t .tag-at .ensures .0) (c .before .if2 .taken))
+
+loop-again : tie.Need-loop-again Inv-loop μ-loop
+loop-again c =
+    let n = c .before .before in
+    let t = n .before .before .before .before .before in
+    let l = t .before .before .before .before .before in
+    let s = l .before .before .before .before .before .before in
+    let v = l .before .loop in
+    let h = long s (v .i) (few l) in
+    let raw = getD (s .args .t1 .legs) (v .i) noRawLeg in
+    let tag = tag-some raw _ (t .tag-at .ensures .0) (n .before .before .before .before .if2 .left) in (
+      next-read (v .i) (omega (arith, v .inv .1, few l)) (omega (arith, v .inv .2, few l)) (omega (arith, v .inv .3, few l)) (s .args .t1 .legs) (omega (arith, full s, few l)) (v .inv .0)
+          (record {
+            long = h;
+            good = tag .0;
+            tag = n .before .before .before .place-of .ensures ∙ ap (λ (k : ℕ). placeOf k (v .i)) (tag .1);
+            bytes = root-valued (raw .symbol) h (t .before .before .root-of .ensures);
+            starts = refl;
+            counts = n .pick .ensures ∙ ap (λ (b : Bool). cond b (v .number) 5) (n .before .within2 .ensures);
+            others = c .either .ensures ∙ ap (λ (b : Bool). v .other || b) (c .before .negated2 .ensures);
+          }),
+      length-set (v .places) (v .i) _ ∙ v .inv .1,
+      length-set (v .sizes) (v .i) _ ∙ v .inv .2,
+      length-set (v .roots) (v .i) _ ∙ v .inv .3,
+      omega (arith, l .loop-test .taken),
+    )
+
+returns-3 : tie.Need-returns-3 Inv-loop μ-loop
+returns-3 c =
+    let l = c .before .before in
+    let s = l .before .before .before .before .before in
+    let v = l .loop in
+    let e : v .i ≡ s .args .t1 .len = omega (arith, c .before .loop-test .left, v .inv .4) in
+    all-read (s .args .t1) _ _ _ (v .inv .1) (v .inv .2) (v .inv .3) (some (l .before)) _ _ (v .first) (v .number) (v .other) (c .read-of3 .ensures) (rw e at (v .inv .0))
+
+pub read-legs-spec : {M : Type 1} → statement M
+read-legs-spec =
+    tie.close
+    (tie.spec
+    Inv-loop
+    μ-loop
+    (λ c κs. tt)
+    (λ c κs. tt)
+    (λ c κs. tt)
+    returns
+    loop-holds
+    (λ c. omega (arith, few c))
+    few
+    (λ c. search needs)
+    (λ c. search needs)
+    (λ c. search needs)
+    (λ c. search needs)
+    (λ c. search needs)
+    (λ c. search needs)
+    (λ c κs. tt)
+    slice-aggregate-tag-at
+    tag-at-requires
+    (λ c κs. tt)
+    returns-2
+    (λ c κs. (c .before .tag-at .ensures .1, omega (arith, few (c .before .before .before .before .before .before))))
+    (λ c. omega (arith, few (c .before .before .before .before .before .before .before)))
+    (λ c. few (c .before .before .before .before .before .before .before))
+    (λ c. omega (arith, few (c .before .before .before .before .before .before .before)))
+    (λ c. few (c .before .before .before .before .before .before .before))
+    (λ c. omega (arith, few (c .before .before .before .before .before .before .before)))
+    (λ c. few (c .before .before .before .before .before .before .before))
+    (λ c. search needs)
+    (λ c κs. tt)
+    (λ c κs. tt)
+    (λ c κs. tt)
+    (λ c κs. tt)
+    (λ c. omega (arith, few (c .before .before .before .before .before .before .before .before .before .before .before .before)))
+    (λ c. search needs)
+    loop-again
+    (λ c κs. tt)
+    returns-3)
