@@ -3,7 +3,7 @@
 use mathlib.Core.Path.{_≡_, refl, sym, ap}
 use mathlib.Core.List.{List, [], _∷_, map, map-append}
 use mathlib.Core.Bool.{Bool, true, false, cond, not, _&&_, _||_}
-use Prim.Native.Nat.{ℕ, zero, suc, _*_, _/_, _%_, _≤_, _<_, min}
+use Prim.Native.Nat.{ℕ, zero, suc, _-_, _*_, _/_, _%_, _≤_, _<_, min}
 use native.Mathlib.Nat.{min-eq-left, min-eq-right, mul-le-mul-left, mul-lt-mul-of-pos-left, mul-pos, mul-sub, mul-zero, mul-assoc, mul-div-mul-left, mod-lt, mod-eq-sub-mul-div}
 use native.Mathlib.Omega.{arith}
 use lib.Dec.{eqb, leb, ltb}
@@ -16,7 +16,7 @@ use Rattle.rules.specs.declared.Settings.{Settings}
 use Rattle.rules.specs.declared.Market.{Market}
 use Rattle.rules.specs.Lists.{sameBool, lex, insert, sort, all}
 use Rattle.rules.specs.Order.{isYes, gcd, commonDivisor, divided, units}
-use Rattle.rules.specs.Pairing.{Pair, Walked, Reached, less, pairOf, matched, reach, walk, wholeLeg, oneExpiry, oneStrike, byStrike, byExpiry, bothWalks, isDebit}
+use Rattle.rules.specs.Pairing.{Pair, Walked, Reached, less, pairOf, matched, reach, walk, digit, wholeLeg, oneExpiry, oneStrike, byStrike, byExpiry, bothWalks, isDebit}
 use Rattle.rules.specs.Class.{shapeOf, allOf, pairClass, classWith, classOf}
 use Rattle.rules.specs.Numbers.{judged}
 use Rattle.laws.proofs.Divisor.{gcd-zero, gcd-step}
@@ -103,9 +103,9 @@ module _ (k : ℕ) (above : 0 < k) where
         rw (walk-scaled xs, reach-scaled x (w .legs), map-append (scaledPair k) (w .pairs) (reach same x (w .legs) .pairs))
 
   -- sequences: the size is an entry of the key, and scaling keeps its order
-  module _ (first : Series → ℕ) where
+  module _ (first second third : Series → ℕ) where
     abbrev key : Leg → List ℕ
-    key l = first (l .series) ∷ wholeLeg l
+    key l = first (l .series) ∷ second (l .series) ∷ third (l .series) ∷ wholeLeg l
 
     lex-scaled : (x y : Leg) → lex (key (scaled k x)) (key (scaled k y)) ≡ lex (key x) (key y)
     unfolding lex
@@ -128,11 +128,11 @@ module _ (k : ℕ) (above : 0 < k) where
   -- scaled legs come in the same sequence
   pub byStrike-scaled : (ls : List Leg) → byStrike (map (scaled k) ls) ≡ map (scaled k) (byStrike ls)
   unfolding byStrike
-  byStrike-scaled ls = sort-scaled _ ls
+  byStrike-scaled ls = sort-scaled (λ s. digit (s .call)) (λ s. s .expiry) (λ s. cond (s .call) (99999999 - s .strike .0) (s .strike .0)) ls
 
   byExpiry-scaled : (ls : List Leg) → byExpiry (map (scaled k) ls) ≡ map (scaled k) (byExpiry ls)
   unfolding byExpiry
-  byExpiry-scaled ls = sort-scaled _ ls
+  byExpiry-scaled ls = sort-scaled (λ s. digit (s .call)) (λ s. s .strike .0) (λ s. 99999999 - s .expiry) ls
 
   -- both walks of scaled legs make the scaled pairs and leave the scaled legs
   pub pairing-scaled : (european : Bool) (ls : List Leg) → bothWalks european (map (scaled k) ls) ≡ scaledWalk k (bothWalks european ls)

@@ -16,8 +16,8 @@ use Rattle.rules.specs.Order.{noLeg}
 use Rattle.rules.specs.Pairing.{strikeKey, expiryKey, wholeLeg, byStrike, byExpiry}
 use Rattle.rules.specs.Valid.{InRange}
 use Rattle.laws.proofs.Sorting.{all-perm, all-map, perm-sym, sort-is-perm, lex-below, lex-level}
-use Rattle.sorting.specs.Keys.{sortKeys, tagged, EachTwo}
-use Rattle.sorting.proofs.Laws.{sort-same, sort-tagged, tagged-says, each-two-with}
+use Rattle.sorting.specs.Keys.{sortKeys, withPlaces, EachTwo}
+use Rattle.sorting.proofs.Laws.{sort-same, sort-places, places-say, each-two-with}
 use Rattle.keys.specs.Tags.{packed, keyOf, tagOf, legAt, legsFrom, legsIn, sequenced, Tagged, Arranged}
 use Rattle.keys.proofs.Keys.{small-digit}
 use Rattle.keys.proofs.Zip.{zip-take}
@@ -91,23 +91,23 @@ doubled k l d e h j n = go (three k l)
     go (inr (inr p)) = absurd (n p)
 
 -- every tagged number's place is one of the list's
-places-small : (i n : ℕ) (ks : List ℕ) → i + length ks ≤ n → n ≤ 16 → All (λ t. t % 16 < n) (tagged i ks)
-unfolding tagged
+places-small : (i n : ℕ) (ks : List ℕ) → i + length ks ≤ n → n ≤ 16 → All (λ t. t % 16 < n) (withPlaces i ks)
+unfolding withPlaces
 places-small i n [] h f = tt
 places-small i n (k ∷ ks) h f = (omega arith, places-small (suc i) n ks (omega arith) f)
 
 module _ (second : Bool) (ls : List Leg) (few : length ls ≤ 16) (range : All (λ x. InRange (x .series)) ls)
     (apart : EachTwo (λ x y. keyOf second (x .series) ≡ keyOf second (y .series) → ⊥) ls) where
   abbrev numbers : List ℕ
-  numbers = tagged 0 (map (tagOf second) ls)
+  numbers = withPlaces 0 (map (tagOf second) ls)
 
   abbrev at : ℕ → Leg
   at p = getD ls (p % 16) noLeg
 
-  pub by-tags : sequenced second ls ≡ map (λ p. getD ls (p % 16) noLeg) (sortKeys numbers)
+  by-tags : sequenced second ls ≡ map (λ p. getD ls (p % 16) noLeg) (sortKeys numbers)
   by-tags =
       sorted-by second ls
-      ∙ sort-tagged noLeg (tagOf second) ls few (keyed second)
+      ∙ sort-places noLeg (tagOf second) ls few (keyed second)
       (each-two-with _ _ (λ x. InRange (x .series))
       (λ x y d r q. (
         (λ e. d (omega (arith, tag-half second x, tag-half second y, e))),
@@ -118,10 +118,10 @@ module _ (second : Bool) (ls : List Leg) (few : length ls ≤ 16) (range : All (
   perm : Perm (sequenced second ls) ls
   perm = rw (sorted-by second ls) (sort-is-perm (keyed second) ls)
 
-  pub range-sequenced : All (λ x. InRange (x .series)) (sequenced second ls)
+  range-sequenced : All (λ x. InRange (x .series)) (sequenced second ls)
   range-sequenced = all-perm (λ x. InRange (x .series)) (perm-sym perm) range
 
-  pub roots-sequenced : (root : ℕ) → All (λ x. x .root ≡ root) ls → All (λ x. x .root ≡ root) (sequenced second ls)
+  roots-sequenced : (root : ℕ) → All (λ x. x .root ≡ root) ls → All (λ x. x .root ≡ root) (sequenced second ls)
   roots-sequenced root h = all-perm (λ x. x .root ≡ root) (perm-sym perm) h
 
   -- what a place says: one of the legs, and that leg's tag
@@ -129,7 +129,7 @@ module _ (second : Bool) (ls : List Leg) (few : length ls ≤ 16) (range : All (
   Says p = (p % 16 < length ls) × (tagOf second (at p) ≡ p / 16)
 
   says : All Says (sortKeys numbers)
-  says = all-perm Says (perm-sym (sort-same numbers)) (both numbers (places-small 0 (length ls) (map (tagOf second) ls) (omega (arith, length-map ls (tagOf second))) few) (tagged-says noLeg (tagOf second) ls few))
+  says = all-perm Says (perm-sym (sort-same numbers)) (both numbers (places-small 0 (length ls) (map (tagOf second) ls) (omega (arith, length-map ls (tagOf second))) few) (places-say noLeg (tagOf second) ls few))
     where
       both : (ps : List ℕ) → All (λ p. p % 16 < length ls) ps → All (λ p. tagOf second (at p) ≡ p / 16) ps → All Says ps
       both [] h k = tt

@@ -60,7 +60,7 @@ pub tag-small : (second : Bool) (x : Leg) → InRange (x .series) → tagOf seco
 tag-small second x r = omega (arith, small-digit (x .bought), back second (x .series) r .1)
 
 -- the tag and the contracts say the leg
-pub leg-back : (second : Bool) (x : Leg) → InRange (x .series) → legAt (x .root) second (tagOf second x) (x .size) ≡ x
+leg-back : (second : Bool) (x : Leg) → InRange (x .series) → legAt (x .root) second (tagOf second x) (x .size) ≡ x
 leg-back second x r =
     let s = ap (seriesAt second) (tag-half second x) ∙ back second (x .series) r .0 in
     let b = side-back (keyOf second (x .series)) (x .bought) in

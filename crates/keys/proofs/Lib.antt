@@ -1,5 +1,6 @@
 pub mod Keys
 pub mod Zip
+pub mod Places
 pub mod Back
 pub mod Arranging
 pub mod Valid

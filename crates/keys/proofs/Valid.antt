@@ -3,21 +3,20 @@ use mathlib.Core.Path.{_≡_, refl, sym, ap, _∙_}
 use mathlib.Core.List.{List, [], _∷_, map}
 use mathlib.Core.Bool.{Bool, true, false, not, true≢false}
 use Prim.Native.Nat.{ℕ, _/_, _≤_}
-use native.Mathlib.Omega.{arith}
 use lib.ListN.{length, take, getD}
 use lib.Dec.{eqb}
 use borrow.Author.Tests.{eq-eqb, eqb-true}
 use Rattle.rules.specs.declared.Series.{Series}
 use Rattle.rules.specs.declared.Leg.{Leg}
-use Rattle.rules.specs.Lists.{All, Perm, sameBool, any, somePair}
+use Rattle.rules.specs.Lists.{All, sameBool, any, somePair}
 use Rattle.rules.specs.Order.{noLeg}
 use Rattle.rules.specs.Pairing.{byStrike}
 use Rattle.rules.specs.Numbers.{isSameSeries, isOtherRoot}
 use Rattle.rules.specs.Valid.{InRange, IsValidLeg, AreValid}
 use Rattle.rules.proofs.Tests.{or-neither}
-use Rattle.laws.proofs.Sorting.{all-perm, all-map, perm-sym, somePair-perm}
+use Rattle.laws.proofs.Sorting.{all-perm, perm-sym, somePair-perm}
 use Rattle.laws.proofs.Sequence.{by-strike-is-perm, same-series-turn, other-root-turn}
-use Rattle.sorting.specs.Keys.{sortKeys, tagged, EachTwo}
+use Rattle.sorting.specs.Keys.{sortKeys, withPlaces, EachTwo}
 use Rattle.sorting.proofs.Laws.{each-two-with, each-two-fail}
 use Rattle.keys.specs.Tags.{keyOf, tagOf, legsIn, ValidTags, Arranged}
 use Rattle.keys.proofs.Back.{key-tells, tag-half}
@@ -25,16 +24,14 @@ use Rattle.keys.proofs.Arranging.{arranged-tags, arranged-sizes, arrang
 
 -- ---- another sequence
 
-valid-perm : {xs ys : List Leg} → Perm xs ys → AreValid xs → AreValid ys
-valid-perm p v =
+valid-sorted : (ls : List Leg) → AreValid ls → AreValid (byStrike ls)
+valid-sorted ls v =
+    let p = by-strike-is-perm ls in
     record {
-      each = all-perm IsValidLeg p (v .each);
-      apart = sym (somePair-perm isSameSeries same-series-turn p) ∙ v .apart;
-      roots = sym (somePair-perm isOtherRoot other-root-turn p) ∙ v .roots;
+      each = all-perm IsValidLeg (perm-sym p) (v .each);
+      apart = somePair-perm isSameSeries same-series-turn p ∙ v .apart;
+      roots = somePair-perm isOtherRoot other-root-turn p ∙ v .roots;
     }
-
-pub valid-sorted : (ls : List Leg) → AreValid ls → AreValid (byStrike ls)
-valid-sorted ls v = valid-perm (perm-sym (by-strike-is-perm ls)) v
 
 -- ---- one root
 
@@ -73,29 +70,30 @@ equal-series a b r s =
     let w : sameBool (a .series .call) (b .series .call) ≡ true = ap (λ (c : Bool). sameBool (a .series .call) c) (ap (λ (u : Series). u .call) (sym s)) ∙ same-bool (a .series .call) in
     rw (x, w, y, z)
 
-module _ (second : Bool) where
-  abbrev Apart : Leg → Leg → Type 0
-  Apart a b = keyOf second (a .series) ≡ keyOf second (b .series) → ⊥
+abbrev Apart : Leg → Leg → Type 0
+Apart a b = keyOf false (a .series) ≡ keyOf false (b .series) → ⊥
 
-  keys-differ : (root : ℕ) (a b : Leg) → isSameSeries a b ≡ false → IsValidLeg a × (a .root ≡ root) → IsValidLeg b × (b .root ≡ root) → Apart a b
-  keys-differ root a b h p q k =
-      true≢false (sym (equal-series a b (p .1 ∙ sym (q .1)) (key-tells second (a .series) (b .series) (p .0 .series) (q .0 .series) k)) ∙ h)
+-- a valid leg of a root
+abbrev Of : ℕ → Leg → Type 0
+Of root x = IsValidLeg x × (x .root ≡ root)
 
-  both-all : (root : ℕ) (ls : List Leg) → All IsValidLeg ls → All (λ y. y .root ≡ root) ls → All (λ x. IsValidLeg x × (x .root ≡ root)) ls
-  both-all root [] h k = tt
-  both-all root (x ∷ ls) h k = ((h .0, k .0), both-all root ls (h .1) (k .1))
+keys-apart : (ls : List Leg) → AreValid ls → EachTwo Apart ls
+keys-apart ls v = each-two-with (λ a b. isSameSeries a b ≡ false) Apart (Of (rootOf ls)) differ ls (each-two-fail isSameSeries ls (v .apart)) (both ls (v .each) (one-root ls (v .roots)))
+  where
+    differ : (a b : Leg) → isSameSeries a b ≡ false → Of (rootOf ls) a → Of (rootOf ls) b → Apart a b
+    differ a b h p q k = true≢false (sym (equal-series a b (p .1 ∙ sym (q .1)) (key-tells false (a .series) (b .series) (p .0 .series) (q .0 .series) k)) ∙ h)
 
-  pub keys-apart : (ls : List Leg) → AreValid ls → EachTwo (λ a b. keyOf second (a .series) ≡ keyOf second (b .series) → ⊥) ls
-  keys-apart ls v =
-      each-two-with (λ a b. isSameSeries a b ≡ false) Apart (λ x. IsValidLeg x × (x .root ≡ rootOf ls)) (keys-differ (rootOf ls)) ls (each-two-fail isSameSeries ls (v .apart)) (both-all (rootOf ls) ls (v .each) (one-root ls (v .roots)))
+    both : (xs : List Leg) → All IsValidLeg xs → All (λ y. y .root ≡ rootOf ls) xs → All (Of (rootOf ls)) xs
+    both [] h k = tt
+    both (x ∷ xs) h k = ((h .0, k .0), both xs (h .1) (k .1))
 
 -- ---- as tags
 
-tags-apart : (ls : List Leg) → EachTwo (λ a b. keyOf false (a .series) ≡ keyOf false (b .series) → ⊥) ls → EachTwo (λ a b. a / 2 ≡ b / 2 → ⊥) (map (tagOf false) ls)
+tags-apart : (ls : List Leg) → EachTwo Apart ls → EachTwo (λ a b. a / 2 ≡ b / 2 → ⊥) (map (tagOf false) ls)
 tags-apart [] h = tt
 tags-apart (x ∷ xs) h = (all-tags xs (h .0), tags-apart xs (h .1))
   where
-    all-tags : (ys : List Leg) → All (λ y. keyOf false (x .series) ≡ keyOf false (y .series) → ⊥) ys → All (λ b. tagOf false x / 2 ≡ b / 2 → ⊥) (map (tagOf false) ys)
+    all-tags : (ys : List Leg) → All (Apart x) ys → All (λ b. tagOf false x / 2 ≡ b / 2 → ⊥) (map (tagOf false) ys)
     all-tags [] k = tt
     all-tags (y ∷ ys) k = ((λ e. k .0 (sym (tag-half false x) ∙ e ∙ tag-half false y)), all-tags ys (k .1))
 
@@ -109,7 +107,7 @@ counts-within (x ∷ ls) h = ((h .0 .least, h .0 .most), counts-within ls (h .1)
 
 -- valid legs, sorted by their tags and arranged
 module _ (ls : List Leg) (v : AreValid ls) (n : ℕ) (many : length ls ≡ n) (few : n ≤ 16) (places sizes tags left : List ℕ)
-    (order : take n places ≡ sortKeys (tagged 0 (map (tagOf false) ls)))
+    (order : take n places ≡ sortKeys (withPlaces 0 (map (tagOf false) ls)))
     (counts : take n sizes ≡ map (λ x. x .size) ls)
     (arranged : Arranged n places sizes tags left) where
   short : length ls ≤ 16
@@ -118,8 +116,8 @@ module _ (ls : List Leg) (v : AreValid ls) (n : ℕ) (many : length ls ≡ n) (f
   range : All (λ x. InRange (x .series)) ls
   range = ranges ls (v .each)
 
-  apart : EachTwo (λ a b. keyOf false (a .series) ≡ keyOf false (b .series) → ⊥) ls
-  apart = keys-apart false ls v
+  apart : EachTwo Apart ls
+  apart = keys-apart ls v
 
   pub valid-tags : ValidTags n tags left
   valid-tags =
@@ -127,7 +125,7 @@ module _ (ls : List Leg) (v : AreValid ls) (n : ℕ) (many : length ls ≡ n) (f
       record {
         valid = arranged-tagged false ls short range apart n many places sizes tags left order counts arranged;
         full = arranged .fullLeft;
-        apart = rw (arranged-tags false ls short range apart n many places sizes tags left order counts arranged) (tags-apart (byStrike ls) (keys-apart false (byStrike ls) s));
+        apart = rw (arranged-tags false ls short range apart n many places sizes tags left order counts arranged) (tags-apart (byStrike ls) (keys-apart (byStrike ls) s));
         counts = rw (arranged-sizes false ls short range apart n many places sizes tags left order counts arranged) (counts-within (byStrike ls) (s .each));
       }
 

@@ -1,6 +1,6 @@
 -- Two lists taken together, place by place.
 use mathlib.Core.Path.{_≡_, refl, ap}
-use mathlib.Core.List.{List, [], _∷_, map, zipWith}
+use mathlib.Core.List.{List, [], _∷_, zipWith}
 use Prim.Native.Nat.{ℕ, zero, suc, _<_}
 use native.Mathlib.Omega.{arith}
 use lib.ListN.{length, take, getD, set}
@@ -32,9 +32,3 @@ module _ {A B C : Type 0} (f : A → B → C) where
   zip-take (suc n) [] ys = refl
   zip-take (suc n) (x ∷ xs) [] = refl
   zip-take (suc n) (x ∷ xs) (y ∷ ys) = ap (λ (zs : List C). f x y ∷ zs) (zip-take n xs ys)
-
-  -- two maps of one list
-  pub zip-maps : {D : Type 0} (g : D → A) (h : D → B) (ds : List D) → zipWith f (map g ds) (map h ds) ≡ map (λ d. f (g d) (h d)) ds
-  unfolding zipWith
-  zip-maps g h [] = refl
-  zip-maps g h (d ∷ ds) = ap (λ (zs : List C). f (g d) (h d) ∷ zs) (zip-maps g h ds)

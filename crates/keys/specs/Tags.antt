@@ -9,7 +9,7 @@ use Rattle.rules.specs.declared.Series.{Series}
 use Rattle.rules.specs.declared.Leg.{Leg}
 use Rattle.rules.specs.Lists.{All}
 use Rattle.rules.specs.Pairing.{digit, byStrike, byExpiry}
-use Rattle.sorting.specs.Keys.{tagged, EachTwo}
+use Rattle.sorting.specs.Keys.{withPlaces, EachTwo}
 
 -- ---- one leg
 
@@ -92,13 +92,13 @@ placeOf tag at = tag * 16 + at
 abbrev pub keyIn : ℕ → ℕ
 keyIn place = place / 32
 
--- the legs as they came: each tag with its place (`tagged`), and counts and roots at their places
+-- the legs as they came: the place of each, its contracts and its root
 pub record Placed (ls : List Leg) (places sizes roots : List ℕ) : Type 0 where
-  pub eachTag : take (length ls) places ≡ tagged 0 (map (tagOf false) ls)
+  pub eachTag : take (length ls) places ≡ withPlaces 0 (map (tagOf false) ls)
   pub eachSize : take (length ls) sizes ≡ map (λ l. l .size) ls
   pub eachRoot : take (length ls) roots ≡ map (λ l. l .root) ls
 
--- tags and contracts in a sequence of places
+-- tags and contracts in a sequence of places: the contracts are taken from where the leg came
 pub record Arranged (n : ℕ) (places sizes tags left : List ℕ) : Type 0 where
   pub eachTag : take n tags ≡ map (λ p. p / 16) (take n places)
   pub eachLeft : take n left ≡ map (λ p. getD sizes (p % 16) 0) (take n places)

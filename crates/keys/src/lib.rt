@@ -5,7 +5,7 @@ use rules::Leg;
 use rules::Mills;
 use rules::Series;
 ghost use mathlib.Core.Path.{_≡_};
-ghost use mathlib.Core.Bool.{true, false};
+ghost use mathlib.Core.Bool.{false};
 ghost use Prim.Native.Nat.{_+_, _*_, _≤_, _<_};
 ghost use lib.ListN.{length};
 ghost use Rattle.rules.specs.Pairing.{digit};
@@ -73,7 +73,7 @@ pub fn leg_at(tag: u64, size: u64) -> Leg
     }
 }
 
-// A tag with the place of its leg, so that sorting the numbers moves the legs.
+// A place: a tag, and in the lowest four bits where its leg came. Sorting places sorts the legs.
 pub fn place_of(tag: u64, at: usize) -> u64
     requires { ⌜ (tag < 40000000000000000) × (at < 16) ⌝ }
     ensures { λ r. ⌜ r ≡ placeOf tag at ⌝ }
@@ -88,7 +88,8 @@ pub fn key_in(place: u64) -> u64
     place / 32
 }
 
-// Tags and contracts in a sequence of places: each place becomes its tag, where it stands.
+// Tags and contracts in the sequence of sorted places: each place becomes its tag, and the contracts of its leg are put
+// beside it.
 pub fn arrange(places: &mut [u64; 16], sizes: &[u64; 16], n: usize, left: &mut [u64; 16])
     requires { ⌜ (n ≤ 16) × (length (now places) ≡ 16) × (length (now sizes) ≡ 16) × (length (now left) ≡ 16) ⌝ }
     ensures { λ _. ⌜ Arranged n (now (places .entry)) (now (sizes .entry)) (now (places .exit)) (now (left .exit)) ⌝ }

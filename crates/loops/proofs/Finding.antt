@@ -1,5 +1,5 @@
--- What is found of the first `n` elements of an array, as a loop finds it place by place.
-use mathlib.Core.Path.{_≡_, refl, ap}
+-- What is found of the first `n` elements of an array, as a loop finds it place by place. `r` is the answer before `i`, `r′` the answer with `i`; a loop that returns where `i` decides goes on with the `r` that it began with.
+use mathlib.Core.Path.{_≡_, refl}
 use mathlib.Core.List.{List, [], _∷_}
 use mathlib.Core.Bool.{Bool, true, false, _&&_, _||_}
 use Prim.Native.Nat.{ℕ, _+_, _<_, _≤_}
@@ -13,10 +13,6 @@ use Rattle.rules.proofs.Tests.{and-true, or-false, or-assoc}
 and-assoc : (a b c : Bool) → (a && b) && c ≡ a && (b && c)
 and-assoc true b c = refl
 and-assoc false b c = refl
-
--- two elements pass the test: they are found, or the one at `i` and one from `j` on, or two behind `i`
-abbrev pub from : {A : Type 0} (d : A) (xs : List A) (n : ℕ) (f : A → A → Bool) (r : Bool) (i j : ℕ) → Bool
-from d xs n f r i j = (r || any (f (getD xs i d)) (drop j (take n xs))) || somePair f (drop (i + 1) (take n xs))
 
 module _ {A : Type 0} (d : A) (xs : List A) (n : ℕ) (fits : n ≤ length xs) where
   pub step : (i : ℕ) → i < n → drop i (take n xs) ≡ getD xs i d ∷ drop (i + 1) (take n xs)
@@ -46,16 +42,11 @@ module _ {A : Type 0} (d : A) (xs : List A) (n : ℕ) (fits : n ≤ length xs) w
     unfolding all
     all-end r i h = rw (over i h) (and-true r)
 
+  -- some two from `i` on pass the test
   module _ (f : A → A → Bool) where
-    pub pair-enter : (r : Bool) (i : ℕ) → i < n → from d xs n f r i (i + 1) ≡ r || somePair f (drop i (take n xs))
+    pub pair-turn : (r r′ : Bool) (i : ℕ) → i < n → r′ ≡ r || any (f (getD xs i d)) (drop (i + 1) (take n xs)) → r′ || somePair f (drop (i + 1) (take n xs)) ≡ r || somePair f (drop i (take n xs))
     unfolding somePair
-    pair-enter r i h = rw (step i h) (or-assoc r (any (f (getD xs i d)) (drop (i + 1) (take n xs))) (somePair f (drop (i + 1) (take n xs))))
-
-    pub pair-turn : (r r′ : Bool) (i j : ℕ) → j < n → r′ ≡ r || f (getD xs i d) (getD xs j d) → from d xs n f r′ i (j + 1) ≡ from d xs n f r i j
-    pair-turn r r′ i j h e = ap (λ (b : Bool). b || somePair f (drop (i + 1) (take n xs))) (any-turn (f (getD xs i d)) r r′ j h e)
-
-    pub pair-leave : (r : Bool) (i j : ℕ) → n ≤ j → from d xs n f r i j ≡ r || somePair f (drop (i + 1) (take n xs))
-    pair-leave r i j h = ap (λ (b : Bool). b || somePair f (drop (i + 1) (take n xs))) (any-end (f (getD xs i d)) r j h)
+    pair-turn r r′ i h e = rw (step i h, e) (or-assoc r (any (f (getD xs i d)) (drop (i + 1) (take n xs))) (somePair f (drop (i + 1) (take n xs))))
 
     pub pair-end : (r : Bool) (i : ℕ) → n ≤ i → r || somePair f (drop i (take n xs)) ≡ r
     unfolding somePair

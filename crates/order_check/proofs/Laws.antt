@@ -18,7 +18,7 @@ use Rattle.rules.specs.Market.{settingsHold, marketHolds}
 use Rattle.rules.specs.Valid.{AreValid}
 use Rattle.rules.specs.Numbers.{firstOf, refusal, judged, refused, outcome, checkLegs, checkOrder, areWhole, checkSlices}
 use Rattle.order_record.specs.Slices.{Recorded}
-use Rattle.sorting.specs.Keys.{sortKeys, tagged}
+use Rattle.sorting.specs.Keys.{sortKeys, withPlaces}
 use Rattle.keys.specs.Tags.{tagOf, legsIn, ValidTags, Arranged}
 use Rattle.keys.proofs.Valid.{rootOf, valid-tags, valid-legs}
 use Rattle.reading.specs.declared.Read.{Read}
@@ -106,7 +106,7 @@ module _ (st : Settings) (m : Market) (o : Order) (full : length (o .legs) ≡ 1
   few : read .len ≤ 16
   few = is .few
 
-  order : take (read .len) after ≡ sortKeys (tagged 0 (map (tagOf false) ls))
+  order : take (read .len) after ≡ sortKeys (withPlaces 0 (map (tagOf false) ls))
   order = refuses .sorted none ∙ ap sortKeys (rw many at (good .placed .eachTag))
 
   counts : take (read .len) sizes ≡ map (λ x. x .size) ls

@@ -1,20 +1,19 @@
 -- The definitions on the host's slices, as the code reads them.
-use mathlib.Core.Path.{_≡_, refl, sym, ap, _∙_}
+use mathlib.Core.Path.{_≡_, refl, sym, _∙_}
 use mathlib.Core.List.{List, [], _∷_, _++_, append-nil}
 use mathlib.Core.Bool.{Bool, true, false, _&&_}
-use Prim.Native.Nat.{ℕ, suc, _+_, _-_, _*_, _/_, _%_, _^_, _<_, _≤_}
+use Prim.Native.Nat.{ℕ, suc, _+_, _-_, _*_, _/_, _%_, _<_, _≤_}
 use native.Mathlib.Omega.{arith}
 use native.Mathlib.Numerals.{add-one}
 use native.Mathlib.Nat.{sub-zero}
-use lib.ListN.{length, take, drop, getD, set}
-use lib.Seq.{take-all, take-suc, take-suc-set, drop-drop, append-snoc}
+use lib.ListN.{length, take, drop, set}
+use lib.Seq.{take-suc-set, drop-drop, append-snoc}
 use lib.Dec.{eqb}
-use borrow.Author.Tests.{eqb-true, eqb-false, eq-eqb, ne-eqb, lt-ltb, le-ltb}
+use borrow.Author.Tests.{eqb-true, eqb-false, eq-eqb, ne-eqb}
 use Rattle.rules.specs.declared.RawLeg.{RawLeg}
-use Rattle.rules.specs.Order.{word, rawLeg, rawLegs}
+use Rattle.rules.specs.Order.{rawLeg, rawLegs}
 use Rattle.rules.specs.Numbers.{areWhole}
 use Rattle.rules.proofs.Tests.{and-both}
-use Rattle.rules.proofs.Slices.{bytesAt, slice-bytes}
 
 -- `a` is 21 for each of `n`, by division
 pub by-21 : (a n : ℕ) → eqb (a % 21) 0 && eqb (a / 21) n ≡ eqb a (21 * n)

@@ -1,4 +1,3 @@
-pub mod Places
 pub mod Tallied
 pub mod Skip
 pub mod Seconds

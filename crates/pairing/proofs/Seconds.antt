@@ -12,138 +12,90 @@ use Rattle.rules.specs.declared.Leg.{Leg}
 use Rattle.rules.specs.Lists.{All}
 use Rattle.rules.specs.Pairing.{digit, oneStrike, byExpiry, walk}
 use Rattle.rules.specs.Valid.{InRange}
-use Rattle.sorting.specs.Keys.{sortKeys, tagged, EachTwo}
-use Rattle.sorting.proofs.Laws.{each-two-with}
+use Rattle.sorting.specs.Keys.{sortKeys, withPlaces, EachTwo}
+use Rattle.sorting.proofs.Laws.{each-two-map, each-two-with}
 use Rattle.keys.specs.Tags.{packed, keyOf, seriesAt, tagOf, legAt, legsFrom, legsIn, secondTag, Tagged, Arranged}
+use Rattle.keys.proofs.Keys.{side-says}
 use Rattle.keys.proofs.Zip.{zip-length, zip-take}
-use Rattle.keys.proofs.Back.{key-tells}
+use Rattle.keys.proofs.Back.{key-tells, tag-half}
 use Rattle.keys.proofs.Arranging.{arranged-legs, arranged-tagged}
 use Rattle.tagged.specs.declared.PairTally.{PairTally}
-use Rattle.tagged.specs.Tags.{none, noted, Walks}
+use Rattle.tagged.specs.Tags.{Walks}
 use Rattle.loners.specs.Tallies.{allAlone, Loners}
 use Rattle.pairing.specs.Both.{tallied}
 
--- ---- one tag
-
--- a key says a series in range
-in-range : (k : ℕ) → InRange (seriesAt false k)
+-- a key says a series in range, and the series says the key
+key-says : (k : ℕ) → k < 20000000000000000 → InRange (seriesAt false k) × (keyOf false (seriesAt false k) ≡ k)
 unfolding seriesAt
-in-range k = record { expiry = omega arith; strike = go (eqb (k / 10000000000000000) 1) }
+key-says k h = let s = go (eqb (k / 10000000000000000) 1) refl in (record { expiry = omega arith; strike = s .0 }, s .1)
   where
-    go : (c : Bool) → cond c (99999999 - k % 100000000) (k % 100000000) ≤ 99999999
-    go true = omega arith
-    go false = omega arith
+    go : (c : Bool) → eqb (k / 10000000000000000) 1 ≡ c → let strike = cond c (99999999 - k % 100000000) (k % 100000000) in
+        (strike ≤ 99999999) × (packed (digit c) (k / 100000000 % 100000000) (cond c (99999999 - strike) strike) ≡ k)
+    go true e = let f = eqb-true (k / 10000000000000000) 1 e in (omega arith, omega arith)
+    go false e = let f = eqb-false (k / 10000000000000000) 1 e in (omega arith, omega arith)
 
--- and the series says the key
-key-again : (k : ℕ) → k < 20000000000000000 → keyOf false (seriesAt false k) ≡ k
-unfolding seriesAt
-key-again k h = go (eqb (k / 10000000000000000) 1) refl
-  where
-    go : (c : Bool) → eqb (k / 10000000000000000) 1 ≡ c
-        → packed (digit c) (k / 100000000 % 100000000) (cond c (99999999 - cond c (99999999 - k % 100000000) (k % 100000000)) (cond c (99999999 - k % 100000000) (k % 100000000))) ≡ k
-    go true e = let f = eqb-true (k / 10000000000000000) 1 e in omega arith
-    go false e = let f = eqb-false (k / 10000000000000000) 1 e in omega arith
+-- the legs of tags and counts, and what they say
+record Legs (root : ℕ) (ts ns : List ℕ) (ls : List Leg) : Type 0 where
+  firsts : ts ≡ map (tagOf false) ls
+  seconds : map secondTag ts ≡ map (tagOf true) ls
+  sizes : ns ≡ map (λ x. x .size) ls
+  ranges : All (λ x. InRange (x .series)) ls
+  roots : All (λ x. x .root ≡ root) ls
 
--- keys that differ in the first walk differ in the second
-abbrev Apart : ℕ → ℕ → Type 0
-Apart a b = keyOf true (seriesAt false (a / 2)) ≡ keyOf true (seriesAt false (b / 2)) → ⊥
+legs-say : (root : ℕ) (ts ns : List ℕ) → length ts ≡ length ns → All (λ t. t < 40000000000000000) ts → Legs root ts ns (legsFrom root false ts ns)
+unfolding zipWith
+legs-say root [] [] h k = record { firsts = refl; seconds = refl; sizes = refl; ranges = tt; roots = tt }
+legs-say root [] (n ∷ ns) h k = absurd (omega arith)
+legs-say root (t ∷ ts) [] h k = absurd (omega arith)
+legs-say root (t ∷ ts) (n ∷ ns) h k =
+    let r = legs-say root ts ns (omega arith) (k .1) in
+    let s = key-says (t / 2) (omega arith) in
+    let e : t ≡ tagOf false (legAt root false t n) = omega (arith, s .1, side-says t) in
+    record {
+      firsts = ap₂ _∷_ e (r .firsts);
+      seconds = ap (λ (ms : List ℕ). secondTag t ∷ ms) (r .seconds);
+      sizes = ap (λ (ms : List ℕ). n ∷ ms) (r .sizes);
+      ranges = (s .0, r .ranges);
+      roots = (refl, r .roots);
+    }
 
-still-apart : (a b : ℕ) → (a / 2 ≡ b / 2 → ⊥) → a < 40000000000000000 → b < 40000000000000000 → Apart a b
-still-apart a b d ha hb e =
-    let s = key-tells true (seriesAt false (a / 2)) (seriesAt false (b / 2)) (in-range (a / 2)) (in-range (b / 2)) e in
-    d (sym (key-again (a / 2) (omega arith)) ∙ ap (keyOf false) s ∙ key-again (b / 2) (omega arith))
+module _ {n : ℕ} {tags left sorted seconds rest : List ℕ} (tg : Tagged n tags) (l : length left ≡ 16) (apart : EachTwo (λ a b. a / 2 ≡ b / 2 → ⊥) (take n tags))
+    (order : take n sorted ≡ sortKeys (withPlaces 0 (map secondTag (take n tags))))
+    (arranged : Arranged n sorted left seconds rest)
+    (root : ℕ) where
+  abbrev ls : List Leg
+  ls = legsFrom root false (take n tags) (take n left)
 
--- ---- the legs of a list of tags
+  long : length (take n tags) ≡ n
+  long = length-take-le n tags (omega (arith, tg .few, tg .full))
 
-module _ (root : ℕ) where
-  abbrev legs : List ℕ → List ℕ → List Leg
-  legs ts ns = legsFrom root false ts ns
+  as-long : length (take n tags) ≡ length (take n left)
+  as-long = long ∙ sym (length-take-le n left (omega (arith, tg .few)))
 
-  ranges : (ts ns : List ℕ) → All (λ x. InRange (x .series)) (legs ts ns)
-  unfolding zipWith
-  ranges [] ns = tt
-  ranges (t ∷ ts) [] = tt
-  ranges (t ∷ ts) (n ∷ ns) = (in-range (t / 2), ranges ts ns)
+  many : length ls ≡ n
+  many = zip-length (legAt root false) (take n tags) (take n left) as-long ∙ long
 
-  roots : (ts ns : List ℕ) → All (λ x. x .root ≡ root) (legs ts ns)
-  unfolding zipWith
-  roots [] ns = tt
-  roots (t ∷ ts) [] = tt
-  roots (t ∷ ts) (n ∷ ns) = (refl, roots ts ns)
+  say : Legs root (take n tags) (take n left) ls
+  say = legs-say root (take n tags) (take n left) as-long (tg .small)
 
-  legs-apart : (ts ns : List ℕ) → EachTwo Apart ts → EachTwo (λ x y. keyOf true (x .series) ≡ keyOf true (y .series) → ⊥) (legs ts ns)
-  unfolding zipWith
-  legs-apart [] ns h = tt
-  legs-apart (t ∷ ts) [] h = tt
-  legs-apart (t ∷ ts) (n ∷ ns) h = (go ts ns (h .0), legs-apart ts ns (h .1))
+  -- keys that differ in the first walk differ in the second
+  keys-apart : EachTwo (λ x y. keyOf true (x .series) ≡ keyOf true (y .series) → ⊥) ls
+  keys-apart = each-two-with (λ x y. tagOf false x / 2 ≡ tagOf false y / 2 → ⊥) _ (λ x. InRange (x .series)) differ ls (each-two-map _ (tagOf false) ls (rw (say .firsts) at apart)) (say .ranges)
     where
-      go : (us ms : List ℕ) → All (Apart t) us → All (λ y. keyOf true (seriesAt false (t / 2)) ≡ keyOf true (y .series) → ⊥) (legs us ms)
-      go [] ms k = tt
-      go (u ∷ us) [] k = tt
-      go (u ∷ us) (m ∷ ms) k = (k .0, go us ms (k .1))
+      differ : (x y : Leg) → (tagOf false x / 2 ≡ tagOf false y / 2 → ⊥) → InRange (x .series) → InRange (y .series) → keyOf true (x .series) ≡ keyOf true (y .series) → ⊥
+      differ x y d r q e = d (tag-half false x ∙ ap (keyOf false) (key-tells true (x .series) (y .series) r q e) ∙ sym (tag-half false y))
 
-  sizes-of : (ts ns : List ℕ) → length ts ≡ length ns → ns ≡ map (λ x. x .size) (legs ts ns)
-  unfolding zipWith
-  sizes-of [] [] h = refl
-  sizes-of [] (n ∷ ns) h = absurd (omega arith)
-  sizes-of (t ∷ ts) [] h = absurd (omega arith)
-  sizes-of (t ∷ ts) (n ∷ ns) h = ap (λ (ms : List ℕ). n ∷ ms) (sizes-of ts ns (omega arith))
-
-  tags-of : (ts ns : List ℕ) → length ts ≡ length ns → map secondTag ts ≡ map (tagOf true) (legs ts ns)
-  unfolding zipWith
-  tags-of [] ns h = refl
-  tags-of (t ∷ ts) [] h = absurd (omega arith)
-  tags-of (t ∷ ts) (n ∷ ns) h = ap (λ (ms : List ℕ). secondTag t ∷ ms) (tags-of ts ns (omega arith))
-
--- ---- the first `n`
-
-module _ (n : ℕ) (tags left : List ℕ) (tg : Tagged n tags) (l : length left ≡ 16) (apart : EachTwo (λ a b. a / 2 ≡ b / 2 → ⊥) (take n tags)) (places sorted seconds rest : List ℕ)
-    (filled : take n places ≡ tagged 0 (map secondTag (take n tags)))
-    (order : take n sorted ≡ sortKeys (take n places))
-    (arranged : Arranged n sorted left seconds rest) where
-  module _ (root : ℕ) where
-    abbrev ls : List Leg
-    ls = legsFrom root false (take n tags) (take n left)
-
-    ls-are : legsIn root false n tags left ≡ ls
-    ls-are = zip-take (legAt root false) n tags left
-
-    tags-long : length (take n tags) ≡ n
-    tags-long = length-take-le n tags (omega (arith, tg .few, tg .full))
-
-    as-long : length (take n tags) ≡ length (take n left)
-    as-long = tags-long ∙ sym (length-take-le n left (omega (arith, tg .few)))
-
-    many : length ls ≡ n
-    many = zip-length (legAt root false) (take n tags) (take n left) as-long ∙ tags-long
-
-    few : length ls ≤ 16
-    few = omega (arith, many, tg .few)
-
-    keys-apart : EachTwo (λ x y. keyOf true (x .series) ≡ keyOf true (y .series) → ⊥) ls
-    keys-apart = legs-apart root (take n tags) (take n left) (each-two-with _ Apart (λ t. t < 40000000000000000) still-apart (take n tags) apart (tg .small))
-
-    numbers : take n sorted ≡ sortKeys (tagged 0 (map (tagOf true) ls))
-    numbers = order ∙ ap sortKeys (filled ∙ ap (tagged 0) (tags-of root (take n tags) (take n left) as-long))
-
-    counts : take n left ≡ map (λ x. x .size) ls
-    counts = sizes-of root (take n tags) (take n left) as-long
-
-    in-sequence : legsIn root true n seconds rest ≡ byExpiry (legsIn root false n tags left)
-    in-sequence =
-        arranged-legs true ls few (ranges root (take n tags) (take n left)) keys-apart n many sorted left seconds rest numbers counts arranged root (roots root (take n tags) (take n left))
-        ∙ ap byExpiry (sym ls-are)
-
-    second-tags : Tagged n seconds
-    second-tags = arranged-tagged true ls few (ranges root (take n tags) (take n left)) keys-apart n many sorted left seconds rest numbers counts arranged
+  numbers : take n sorted ≡ sortKeys (withPlaces 0 (map (tagOf true) ls))
+  numbers = order ∙ ap (λ (ks : List ℕ). sortKeys (withPlaces 0 ks)) (say .seconds)
 
   pub seconds-tagged : Tagged n seconds
-  seconds-tagged = second-tags 0
+  seconds-tagged = arranged-tagged true ls (omega (arith, many, tg .few)) (say .ranges) keys-apart n many sorted left seconds rest numbers (say .sizes) arranged
+
+  in-sequence : legsIn root true n seconds rest ≡ byExpiry (legsIn root false n tags left)
+  in-sequence =
+      arranged-legs true ls (omega (arith, many, tg .few)) (say .ranges) keys-apart n many sorted left seconds rest numbers (say .sizes) arranged root (say .roots)
+      ∙ ap byExpiry (sym (zip-take (legAt root false) n tags left))
 
   -- the second walk and its loners
-  pub second-tallied : (root : ℕ) (after : List ℕ) (b r : PairTally) → Walks seconds rest after n true b → Loners b seconds after n r → r ≡ tallied (walk oneStrike (byExpiry (legsIn root false n tags left)))
-  second-tallied root after b r w lo =
-      let e = in-sequence root in
-      let f = w .legs root ∙ ap (λ (xs : List Leg). walk oneStrike xs .legs) e in
-      let g = w .tally root ∙ ap (λ (xs : List Leg). noted none (walk oneStrike xs .pairs)) e in
-      lo .legs root true ∙ ap₂ allAlone g f
+  pub second-tallied : {after : List ℕ} {b r : PairTally} → Walks seconds rest after n true b → Loners b seconds after n r → r ≡ tallied (walk oneStrike (byExpiry (legsIn root false n tags left)))
+  second-tallied w lo = lo .legs root true ∙ ap₂ allAlone (w .tally root) (w .legs root) ∙ ap (λ (xs : List Leg). tallied (walk oneStrike xs)) in-sequence

@@ -18,7 +18,7 @@ ghost use Prim.Native.Nat.{ℕ, _/_};
 ghost use lib.ListN.{length, take};
 ghost use Rattle.rules.specs.Pairing.{oneStrike, byExpiry};
 ghost use Rattle.rules.specs.Pairing as pairing;
-ghost use Rattle.sorting.specs.Keys.{tagged, EachTwo};
+ghost use Rattle.sorting.specs.Keys.{withPlaces, EachTwo};
 ghost use Rattle.keys.specs.Tags.{secondTag, legsIn, Tagged};
 ghost use Rattle.loners.specs.Tallies.{tallyClass};
 ghost use Rattle.pairing.specs.Both.{tallied, BothWalks};
@@ -32,7 +32,7 @@ pub struct Paired {
 // The legs' tags of the second walk, each with its leg's place.
 fn second_places(tags: &[u64; 16], n: usize, places: &mut [u64; 16])
     requires { ⌜ Tagged n (now tags) × (length (now places) ≡ 16) ⌝ }
-    ensures { λ _. ⌜ take n (now (places .exit)) ≡ tagged 0 (map secondTag (take n (now (tags .entry)))) ⌝ }
+    ensures { λ _. ⌜ take n (now (places .exit)) ≡ withPlaces 0 (map secondTag (take n (now (tags .entry)))) ⌝ }
     ensures { λ _. ⌜ length (now (places .exit)) ≡ 16 ⌝ }
 {
     let mut i = 0;

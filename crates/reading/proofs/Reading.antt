@@ -1,116 +1,159 @@
--- What is known once some legs are read: before any, and after one more.
-use mathlib.Core.Path.{_≡_, refl, sym, _∙_}
-use mathlib.Core.List.{List, [], _∷_, _++_}
+-- The legs one after another: what is known once the first `i` are read, and what reading answers.
+use mathlib.Core.Path.{_≡_, refl, sym, subst, ap, ap₂, _∙_}
+use mathlib.Core.List.{List, [], _∷_, map, map-map}
+use mathlib.Core.Logic.{_⊎_, inr, ⊎-elim}
 use mathlib.Core.Bool.{Bool, true, false, cond, not, _||_}
-use Prim.Native.Nat.{ℕ, _+_, _<_}
+use Prim.Native.Nat.{ℕ, zero, suc, _+_, _≤_, _<_}
 use native.Mathlib.Omega.{arith}
-use native.Mathlib.Numerals.{add-one}
-use lib.ListN.{length, take, getD, set, length-map}
-use lib.Seq.{slice, length-slice, take-suc, length-take-le}
+use lib.ListN.{length, take, drop, getD, set, length-map, length-set, List·getD-map}
+use lib.Seq.{slice, getD-take, length-take-le}
 use lib.Dec.{eqb}
+use borrow.Author.Tests.{eqb-true, eq-eqb, not-false}
 use Rattle.rules.specs.declared.RawLeg.{RawLeg}
+use Rattle.rules.specs.declared.Leg.{Leg}
+use Rattle.rules.specs.declared.Order.{Order}
 use Rattle.rules.specs.Limits.{within}
 use Rattle.rules.specs.Lists.{any, somePair}
-use Rattle.rules.specs.Numerals.{value, areDigits}
-use Rattle.rules.specs.Symbol.{isRoot, inLimits, partsOf, isSymbol}
-use Rattle.rules.specs.Order.{legOf, legsOf, noRawLeg}
-use Rattle.rules.specs.Numbers.{isBadCount, isOtherRoot}
-use Rattle.rules.proofs.Tests.{and-both}
-use Rattle.loops.proofs.Filling.{map-append}
-use Rattle.sorting.specs.Keys.{tagged}
-use Rattle.keys.specs.Tags.{tagOf, placeOf, Placed}
-use Rattle.reading.specs.Legs.{IsKnown}
-use Rattle.reading.proofs.Roots.{root-known}
-use Rattle.reading.proofs.Legs.{any-last, placed-last, rootFrom, root-first, known-last, other-last}
+use Rattle.rules.specs.Numerals.{value}
+use Rattle.rules.specs.Symbol.{partsOf, isSymbol}
+use Rattle.rules.specs.Order.{recordLegs, legOf, legsOf, noRawLeg}
+use Rattle.rules.specs.Numbers.{firstOf, isBadCount, isOtherRoot}
+use Rattle.rules.proofs.Tests.{within-both}
+use Rattle.loops.proofs.Filling.{fill-turn}
+use Rattle.loops.proofs.Finding.{step, over, any-turn, any-end}
+use Rattle.sorting.specs.Keys.{withPlaces}
+use Rattle.keys.specs.Tags.{tagOf, placeOf}
+use Rattle.keys.proofs.Places.{place-turn}
+use Rattle.reading.specs.declared.Read.{Read}
+use Rattle.reading.specs.Legs.{IsKnown, readRefusals, GoodRead, IsRead}
+use Rattle.reading.proofs.Tags.{root-known}
+
+-- ---- what is known
 
 abbrev pub isBadSymbol : RawLeg → Bool
 isBadSymbol r = not (isSymbol (r .symbol))
 
--- after the legs `rs`: the arrays, the first leg's root, the number so far, and whether a root differs. Before any leg `none` stands for the root.
-pub record AreRead (none : ℕ) (rs : List RawLeg) (places sizes roots : List ℕ) (first number : ℕ) (other : Bool) : Type 0 where
-  pub placed : Placed (legsOf rs) places sizes roots
-  pub symbols : any isBadSymbol rs ≡ false
-  pub counts : number ≡ cond (any isBadCount rs) 5 0
-  pub others : other ≡ somePair isOtherRoot (legsOf rs)
-  pub starts : first ≡ rootFrom none (legsOf rs)
+abbrev tagIn : RawLeg → ℕ
+tagIn r = tagOf false (legOf r)
+
+abbrev rootIn : RawLeg → ℕ
+rootIn r = legOf r .root
+
+abbrev Full : List ℕ → List ℕ → List ℕ → Type 0
+Full places sizes roots = (length places ≡ 16) × (length sizes ≡ 16) × (length roots ≡ 16)
+
+-- once `i` legs are read: the arrays so far, what is found with what remains to be read, and that the first leg's root is known
+pub record AreRead (o : Order) (i : ℕ) (places sizes roots : List ℕ) (first number : ℕ) (other : Bool) : Type 0 where
+  pub full : Full places sizes roots
+  pub eachTag : take i places ≡ withPlaces 0 (map tagIn (take i (o .legs)))
+  pub eachSize : take i sizes ≡ map (λ r. legOf r .size) (take i (o .legs))
+  pub eachRoot : take i roots ≡ map rootIn (take i (o .legs))
+  pub symbols : any isBadSymbol (drop i (recordLegs o)) ≡ any isBadSymbol (recordLegs o)
+  pub counts : cond (any isBadCount (drop i (recordLegs o))) 5 number ≡ cond (any isBadCount (recordLegs o)) 5 0
+  pub others : other || any (λ r. isOtherRoot (legOf (getD (o .legs) 0 noRawLeg)) (legOf r)) (drop i (recordLegs o)) ≡ any (λ r. isOtherRoot (legOf (getD (o .legs) 0 noRawLeg)) (legOf r)) (recordLegs o)
   pub known : IsKnown first
-
-pub none-read : (none : ℕ) (places sizes roots : List ℕ) → IsKnown none → AreRead none [] places sizes roots none 0 false
-unfolding any somePair legsOf tagged
-none-read none places sizes roots h =
-    record {
-      placed = record { eachTag = refl; eachSize = refl; eachRoot = refl };
-      symbols = refl;
-      counts = refl;
-      others = refl;
-      starts = refl;
-      known = h;
-    }
-
--- ---- one leg
-
-symbol-root : (s : List ℕ) → isSymbol s ≡ true → isRoot (slice 0 6 s) ≡ true
-unfolding isSymbol
-symbol-root s h =
-    let a = and-both _ (inLimits (partsOf s)) h in
-    let b = and-both _ (areDigits 10 48 (slice 13 21 s)) (a .0) in
-    and-both (isRoot (slice 0 6 s)) _ (b .0) .0
-
-leg-root : (raw : RawLeg) → legOf raw .root ≡ value 256 0 (slice 0 6 (raw .symbol))
-unfolding legOf partsOf
-leg-root raw = refl
-
-leg-size : (raw : RawLeg) → legOf raw .size ≡ raw .size
-unfolding legOf
-leg-size raw = refl
-
-leg-known : (raw : RawLeg) → length (raw .symbol) ≡ 21 → isSymbol (raw .symbol) ≡ true → IsKnown (legOf raw .root)
-leg-known raw l h = rw (leg-root raw) (root-known (slice 0 6 (raw .symbol)) (length-slice 0 6 (raw .symbol) (omega arith)) (symbol-root (raw .symbol) h))
-
-legs-last : (rs : List RawLeg) (raw : RawLeg) → legsOf (rs ++ (raw ∷ [])) ≡ legsOf rs ++ (legOf raw ∷ [])
-unfolding legsOf
-legs-last rs raw = map-append raw legOf rs (raw ∷ [])
-
-legs-length : (rs : List RawLeg) → length (legsOf rs) ≡ length rs
-unfolding legsOf
-legs-length rs = length-map rs legOf
+  pub starts : (i ≡ 0) ⊎ IsKnown (rootIn (getD (o .legs) 0 noRawLeg))
 
 -- ---- one leg more
 
-counted : (a w : Bool) → _≡_ {A = ℕ} (cond w (cond a 5 0) 5) (cond (a || not w) 5 0)
-counted true true = refl
-counted true false = refl
-counted false true = refl
-counted false false = refl
+counted : (within rest : Bool) (n : ℕ) → cond rest 5 (cond within n 5) ≡ cond (not within || rest) 5 n
+counted true rest n = refl
+counted false true n = refl
+counted false false n = refl
 
--- what a turn of the loop makes of the leg at place `i`
-pub record IsNext (raw : RawLeg) (i : ℕ) (roots : List ℕ) (number : ℕ) (other : Bool) (place root first′ number′ : ℕ) (other′ : Bool) : Type 0 where
-  pub long : length (raw .symbol) ≡ 21
-  pub good : isSymbol (raw .symbol) ≡ true
-  pub tag : place ≡ placeOf (tagOf false (legOf raw)) i
-  pub bytes : root ≡ value 256 0 (slice 0 6 (raw .symbol))
-  pub starts : first′ ≡ getD (set roots i root) 0 0
-  pub counts : number′ ≡ cond (within 1 10000 (raw .size)) number 5
-  pub others : other′ ≡ other || not (eqb first′ root)
+module _ (o : Order) (sixteen : length (o .legs) ≡ 16) (some : within 1 16 (o .len) ≡ true) where
+  fits : o .len ≤ length (o .legs)
+  fits = omega (arith, sixteen, within-both 1 16 (o .len) some .1)
 
-module _ {none : ℕ} {places sizes roots : List ℕ} {first number : ℕ} {other : Bool} (i : ℕ) (short1 : i < length places) (short2 : i < length sizes) (short3 : i < length roots) {place root first′ number′ : ℕ} {other′ : Bool} where
-  one-read : (rs : List RawLeg) (raw : RawLeg) → length rs ≡ i → AreRead none rs places sizes roots first number other → IsNext raw i roots number other place root first′ number′ other′
-      → AreRead none (rs ++ (raw ∷ [])) (set places i place) (set sizes i (raw .size)) (set roots i root) first′ number′ other′
-  one-read rs raw l a x =
-      let ls = legsOf rs in
-      let e = legs-last rs raw in
-      let r : root ≡ legOf raw .root = x .bytes ∙ sym (leg-root raw) in
-      let p = placed-last ls (legOf raw) i places sizes roots place (raw .size) root (a .placed) (legs-length rs ∙ l) short1 short2 short3 (x .tag) (sym (leg-size raw)) r in
-      let f : first′ ≡ rootFrom none (ls ++ (legOf raw ∷ [])) = x .starts ∙ root-first none ls (legOf raw) (set roots i root) (p .eachRoot) in
-      record {
-        placed = rw e p;
-        symbols = any-last isBadSymbol rs raw ∙ rw (a .symbols, x .good);
-        counts = rw (x .counts, a .counts, any-last isBadCount rs raw) (counted (any isBadCount rs) (within 1 10000 (raw .size)));
-        others = rw (x .others, a .others, r, f, e) (sym (other-last none ls (legOf raw)));
-        starts = rw e f;
-        known = known-last none ls (legOf raw) first first′ (a .starts) (a .known) (leg-known raw (x .long) (x .good)) f;
-      }
+  module _ {i : ℕ} {places sizes roots : List ℕ} {first number : ℕ} {other : Bool} (a : AreRead o i places sizes roots first number other) (here : i < o .len) {place root number′ : ℕ} {other′ : Bool} where
+    pub next-read : length (getD (o .legs) i noRawLeg .symbol) ≡ 21
+        → isBadSymbol (getD (o .legs) i noRawLeg) ≡ false
+        → place ≡ placeOf (tagIn (getD (o .legs) i noRawLeg)) i
+        → root ≡ value 256 0 (slice 0 6 (getD (o .legs) i noRawLeg .symbol))
+        → number′ ≡ cond (within 1 10000 (getD (o .legs) i noRawLeg .size)) number 5
+        → other′ ≡ other || not (eqb (getD (set roots i root) 0 0) root)
+        → AreRead o (i + 1) (set places i place) (set sizes i (getD (o .legs) i noRawLeg .size)) (set roots i root) (getD (set roots i root) 0 0) number′ other′
+    unfolding legOf partsOf value any
+    next-read long good p r n d =
+        let rs = o .legs in
+        let raw = getD rs i noRawLeg in
+        let h : i < length rs = omega (arith, fits) in
+        let eachRoot = fill-turn noRawLeg rootIn rs roots i root h (omega (arith, a .full .2, sixteen)) r (a .eachRoot) in
+        let f : getD (set roots i root) 0 0 ≡ rootIn (getD rs 0 noRawLeg)
+        = sym (getD-take (i + 1) (set roots i root) 0 0 (omega arith)) ∙ ap (λ (ns : List ℕ). getD ns 0 0) eachRoot ∙ List·getD-map rootIn (take (i + 1) rs) 0 noRawLeg ∙ ap rootIn (getD-take (i + 1) rs 0 noRawLeg (omega arith)) in
+        let counts : cond (any isBadCount (drop (i + 1) (recordLegs o))) 5 number′ ≡ cond (any isBadCount (recordLegs o)) 5 0
+        = rw (n, counted (within 1 10000 (raw .size)) (any isBadCount (drop (i + 1) (recordLegs o))) number) (rw (step noRawLeg rs (o .len) fits i here) at (a .counts)) in
+        let k : IsKnown (rootIn (getD rs 0 noRawLeg)) = ⊎-elim (λ z. subst (λ (j : ℕ). IsKnown (rootIn (getD rs j noRawLeg))) z (root-known (raw .symbol) long (not-false _ good))) (λ k. k) (a .starts) in
+        record {
+          full = (length-set places i place ∙ a .full .0, length-set sizes i (raw .size) ∙ a .full .1, length-set roots i root ∙ a .full .2);
+          eachTag = place-turn noRawLeg tagIn rs places i place h (omega (arith, a .full .0, sixteen)) p (a .eachTag);
+          eachSize = fill-turn noRawLeg (λ r. legOf r .size) rs sizes i (raw .size) h (omega (arith, a .full .1, sixteen)) refl (a .eachSize);
+          eachRoot = eachRoot;
+          symbols = any-turn noRawLeg rs (o .len) fits isBadSymbol false false i here (sym good) ∙ a .symbols;
+          counts = counts;
+          others = any-turn noRawLeg rs (o .len) fits (λ r. isOtherRoot (legOf (getD rs 0 noRawLeg)) (legOf r)) other other′ i here (d ∙ ap₂ (λ (x y : ℕ). other || not (eqb x y)) f r) ∙ a .others;
+          known = rw f k;
+          starts = inr k;
+        }
 
-  pub next-read : (raws : List RawLeg) → i < length raws → AreRead none (take i raws) places sizes roots first number other → IsNext (getD raws i noRawLeg) i roots number other place root first′ number′ other′
-      → AreRead none (take (i + 1) raws) (set places i place) (set sizes i (getD raws i noRawLeg .size)) (set roots i root) first′ number′ other′
-  next-read raws h a x = rw (add-one, take-suc raws i noRawLeg h) (one-read (take i raws) (getD raws i noRawLeg) (length-take-le i raws (omega arith)) a x)
+-- ---- where two roots differ, one differs from the first
+
+or-twice : (a b : Bool) → a || (a || b) ≡ a || b
+or-twice true b = refl
+or-twice false b = refl
+
+one-root : (x : Leg) (rs : List RawLeg) → any (isOtherRoot x) (legsOf rs) || somePair isOtherRoot (legsOf rs) ≡ any (λ r. isOtherRoot x (legOf r)) rs
+unfolding any somePair legsOf
+one-root x [] = refl
+one-root x (r ∷ rs) = go (eqb (x .root) (legOf r .root)) refl (one-root x rs)
+  where
+    go : (b : Bool) → eqb (x .root) (legOf r .root) ≡ b → any (isOtherRoot x) (legsOf rs) || somePair isOtherRoot (legsOf rs) ≡ any (λ r. isOtherRoot x (legOf r)) rs
+        → (not b || any (isOtherRoot x) (legsOf rs)) || (any (isOtherRoot (legOf r)) (legsOf rs) || somePair isOtherRoot (legsOf rs)) ≡ not b || any (λ r. isOtherRoot x (legOf r)) rs
+    go true e ih = rw (← eqb-true (x .root) (legOf r .root) e) (or-twice (any (isOtherRoot x) (legsOf rs)) (somePair isOtherRoot (legsOf rs)) ∙ ih)
+    go false e ih = refl
+
+differ : (n : ℕ) (rs : List RawLeg) → any (λ r. isOtherRoot (legOf (getD rs 0 noRawLeg)) (legOf r)) (take n rs) ≡ somePair isOtherRoot (legsOf (take n rs))
+unfolding any somePair legsOf
+differ zero rs = refl
+differ (suc n) [] = refl
+differ (suc n) (r ∷ rs) = rw (eq-eqb (legOf r .root) (legOf r .root) refl) (sym (one-root (legOf r) (take n rs)))
+
+-- ---- the answers
+
+module _ (o : Order) {places sizes roots : List ℕ} {r : Read} where
+  answered : (number : ℕ) (other : Bool) (len : ℕ) → r ≡ record { number = number; other = other; len = len; terms = o .terms } → Full places sizes roots
+      → number ≡ firstOf (readRefusals (o .len) (recordLegs o))
+      → len ≤ 16
+      → (number ≡ 0 → GoodRead o places sizes roots (record { number = number; other = other; len = len; terms = o .terms }))
+      → IsRead o places sizes roots r
+  answered number other len e full f few good =
+      rw e (record { number = f; few = few; terms = refl; good = good; fullPlaces = full .0; fullSizes = full .1; fullRoots = full .2 })
+
+  pub no-legs : r ≡ record { number = 3; other = false; len = 0; terms = o .terms } → Full places sizes roots → within 1 16 (o .len) ≡ false → IsRead o places sizes roots r
+  unfolding firstOf
+  no-legs e full h = answered 3 false 0 e full (rw h) (omega arith) (λ z. absurd (omega (arith, z)))
+
+  module _ (sixteen : length (o .legs) ≡ 16) (some : within 1 16 (o .len) ≡ true) {i first number : ℕ} {other : Bool} (a : AreRead o i places sizes roots first number other) where
+    pub bad-symbol : r ≡ record { number = 4; other = false; len = 0; terms = o .terms } → i < o .len → isBadSymbol (getD (o .legs) i noRawLeg) ≡ true → IsRead o places sizes roots r
+    unfolding firstOf any
+    bad-symbol e h bad =
+        let b : any isBadSymbol (recordLegs o) ≡ true = sym (a .symbols) ∙ rw (step noRawLeg (o .legs) (o .len) (fits o sixteen some) i h, bad) in
+        answered 4 false 0 e (a .full) (rw (some, b)) (omega arith) (λ z. absurd (omega (arith, z)))
+
+    pub all-read : r ≡ record { number = number; other = other; len = o .len; terms = o .terms } → i ≡ o .len → IsRead o places sizes roots r
+    unfolding firstOf any legsOf
+    all-read e l =
+        let f = fits o sixteen some in
+        let rest = over noRawLeg (o .legs) (o .len) f i (omega (arith, l)) in
+        let m : length (legsOf (recordLegs o)) ≡ i = length-map (recordLegs o) legOf ∙ length-take-le (o .len) (o .legs) f ∙ sym l in
+        answered number other (o .len) e (a .full) (rw (some, ← a .symbols, rest) (rw rest at (a .counts))) (within-both 1 16 (o .len) some .1)
+        (λ z.
+        record {
+          len = refl;
+          placed = record {
+            eachTag = rw (m, map-map (tagOf false) legOf (recordLegs o), ← l) (a .eachTag);
+            eachSize = rw (m, map-map (λ (x : Leg). x .size) legOf (recordLegs o), ← l) (a .eachSize);
+            eachRoot = rw (m, map-map (λ (x : Leg). x .root) legOf (recordLegs o), ← l) (a .eachRoot);
+          };
+          other = sym (any-end noRawLeg (o .legs) (o .len) f _ other i (omega (arith, l))) ∙ a .others ∙ differ (o .len) (o .legs);
+        })

@@ -1,83 +1,83 @@
--- The tag of a leg, from what the reader says of its symbol.
+-- One leg: its symbol's length, its root and its tag.
 use mathlib.Core.Path.{_≡_, refl, sym, ap, _∙_}
-use mathlib.Core.List.{List}
-use mathlib.Core.Bool.{Bool, true, false, cond, not, _&&_}
-use Prim.Native.Nat.{ℕ, _+_, _*_, _≤_}
+use mathlib.Core.List.{List, [], _∷_, map}
+use mathlib.Core.Bool.{Bool, true, false, cond, not}
+use Prim.Native.Nat.{ℕ, zero, suc, _+_, _*_, _^_, _≤_, _<_}
 use native.Mathlib.Omega.{arith}
-use lib.ListN.{length}
-use lib.Seq.{slice}
+use lib.ListN.{length, getD, length-map}
+use lib.Dec.{eqb}
+use borrow.Author.Tests.{not-false, le-leb, lt-ltb, ne-eqb}
+use mir.Val.{Val}
+use denote.Array.{each}
+use denote.Shadow.{shadow}
 use Rattle.rules.specs.declared.Series.{Series}
 use Rattle.rules.specs.declared.SymbolRead.{SymbolRead}
 use Rattle.rules.specs.declared.RawLeg.{RawLeg}
-use Rattle.rules.specs.Numerals.{areDigits}
-use Rattle.rules.specs.Symbol.{isRoot, inLimits, partsOf, isSymbol, readSymbol}
-use Rattle.rules.specs.Order.{seriesOf, legOf}
+use Rattle.rules.specs.Lists.{All}
+use Rattle.rules.specs.Numerals.{value, numeral, areDigits}
+use Rattle.rules.specs.Symbol.{isRoot, partsOf, isSymbol, readSymbol}
+use Rattle.rules.specs.Order.{seriesOf, legOf, noRawLeg}
 use Rattle.rules.specs.Pairing.{digit}
 use Rattle.rules.specs.Valid.{InRange}
-use Rattle.rules.proofs.Tests.{and-both}
-use Rattle.rules.proofs.Symbols.{limits}
-use Rattle.symbol.proofs.Laws.{parts-small, read-good, read-bad}
+use Rattle.rules.proofs.RawLeg.{the-field}
+use Rattle.rules.proofs.Numerals.{numeral-value, value-below}
+use Rattle.rules.proofs.Symbols.{limits, laid, parts-in-layout, read-outside}
+use Rattle.symbol.proofs.Laws.{parts-small, read-good}
 use Rattle.keys.specs.Tags.{keyOf, tagOf}
-use Rattle.reading.specs.Legs.{tagAt}
+use Rattle.reading.specs.Legs.{IsKnown, tagAt}
+
+-- what owning an array of raw legs tells of it: each symbol has 21 bytes
+pub symbol-length : (rs : List RawLeg) (us : List Val) (i : ℕ) → i < length rs → shadow (each (the-field .row .Denot) (the-field .row .own) (map (the-field .into) rs) us) → length (getD rs i noRawLeg .symbol) ≡ 21
+symbol-length [] us i h p = absurd (omega (arith, h))
+symbol-length (r ∷ rs) [] i h p = absurd p
+symbol-length (r ∷ rs) (u ∷ us) zero h p = sym (length-map (r .symbol) _) ∙ p .0 .1 .1 .1 .1 .0 .1 .0 .1
+symbol-length (r ∷ rs) (u ∷ us) (suc i) h p = symbol-length rs us i (omega (arith, h)) (p .1)
+
+-- six bytes that say a known root's number are its bytes
+byte-digits : (bs : List ℕ) → All (λ b. b < 256) bs → areDigits 256 0 bs ≡ true
+unfolding areDigits
+byte-digits [] h = refl
+byte-digits (b ∷ bs) h = rw (le-leb 0 b (omega arith), lt-ltb b (0 + 256) (omega (arith, h .0))) (byte-digits bs (h .1))
+
+pub root-again : (bs : List ℕ) → length bs ≡ 6 → All (λ b. b < 256) bs → IsKnown (value 256 0 bs) → isRoot bs ≡ true
+root-again bs l h known =
+    let d = byte-digits bs h in
+    let same : numeral 256 0 6 (value 256 0 bs) ≡ bs = rw l at (numeral-value 256 0 (omega arith) bs d) in
+    let below : value 256 0 bs < 256 ^ 6 = rw l at (value-below 256 0 (omega arith) bs d) in
+    ap isRoot (sym same) ∙ known below
+
+module _ (s : List ℕ) (long : length s ≡ 21) where
+  pub root-known : isSymbol s ≡ true → IsKnown (partsOf s .root)
+  root-known h = λ w. laid (partsOf s) (parts-in-layout s long h) .1
+
+  -- no tag is 0: the year is not
+  tag-test : (bought : Bool) → eqb (tagAt s bought) 0 ≡ not (isSymbol s)
+  tag-test bought = go (isSymbol s) refl
+    where
+      go : (b : Bool) → isSymbol s ≡ b → eqb (cond b (keyOf false (seriesOf (partsOf s)) * 2 + digit bought) 0) 0 ≡ not b
+      go true h = ne-eqb (keyOf false (seriesOf (partsOf s)) * 2 + digit bought) 0 (λ z. omega (arith, z, limits (partsOf s) (laid (partsOf s) (parts-in-layout s long h) .2) .from))
+      go false h = refl
 
 -- what the reader gives
 module _ (s : List ℕ) (r : SymbolRead) (read : r ≡ readSymbol s) where
   pub read-small : (r .parts .year ≤ 2099) × (r .parts .month ≤ 12) × (r .parts .day ≤ 31)
   read-small = let p = parts-small s in rw read (p .0, p .1, p .2)
 
-  pub read-range : (x : Series) → x ≡ seriesOf (r .parts) → InRange x
-  read-range x e = let p = parts-small s in rw (e, read) (record { expiry = omega (arith, p .0, p .1, p .2); strike = p .3 })
+  module _ (x : Series) (e : x ≡ seriesOf (r .parts)) where
+    pub read-range : InRange x
+    read-range = let p = parts-small s in rw (e, read) (record { expiry = omega (arith, p .0, p .1, p .2); strike = p .3 })
 
-module _ (s : List ℕ) (bought : Bool) where
-  outside : isSymbol s ≡ false → 0 ≡ tagAt s bought
-  outside h = rw h
-
-  pub no-root : isRoot (slice 0 6 s) ≡ false → 0 ≡ tagAt s bought
-  unfolding isSymbol
-  no-root h = rw h
-
-  module _ (long : length s ≡ 21) (r : SymbolRead) (read : r ≡ readSymbol s) where
-    pub not-read : (r .number ≡ 0 → ⊥) → 0 ≡ tagAt s bought
-    not-read h = go (isSymbol s) refl
+    pub read-tag : length s ≡ 21 → (bought b : Bool) → eqb (r .number) 0 ≡ b → cond b (keyOf false x * 2 + digit bought) 0 ≡ tagAt s bought
+    read-tag long bought b f = go (isSymbol s) refl
       where
-        go : (b : Bool) → isSymbol s ≡ b → 0 ≡ tagAt s bought
-        go true e = absurd (h (ap (λ (x : SymbolRead). x .number) (read ∙ read-good s long e)))
-        go false e = outside e
-
-    pub tag-read : (x : Series) (n : ℕ) → r .number ≡ 0 → x ≡ seriesOf (r .parts) → n ≡ keyOf false x * 2 + digit bought → n ≡ tagAt s bought
-    tag-read x n h e f = go (isSymbol s) refl
-      where
-        go : (b : Bool) → isSymbol s ≡ b → n ≡ tagAt s bought
-        go true g =
-            let k : x ≡ seriesOf (partsOf s) = e ∙ ap (λ (y : SymbolRead). seriesOf (y .parts)) (read ∙ read-good s long g) in
-            f ∙ ap (λ (y : Series). keyOf false y * 2 + digit bought) k ∙ sym (ap (λ (b : Bool). cond b (keyOf false (seriesOf (partsOf s)) * 2 + digit bought) 0) g)
-        go false g = absurd (omega (arith, h, ap (λ (y : SymbolRead). y .number) read, read-bad s long g))
-
--- ---- a leg's tag
+        go : (t : Bool) → isSymbol s ≡ t → cond b (keyOf false x * 2 + digit bought) 0 ≡ cond t (keyOf false (seriesOf (partsOf s)) * 2 + digit bought) 0
+        go true h = rw (← f, e, read, read-good s long h)
+        go false h = rw (← f, e, read, read-outside s long h)
 
 module _ (raw : RawLeg) where
-  -- no tag is 0: the year is not
-  some-tag : isSymbol (raw .symbol) ≡ true → 1 ≤ tagOf false (legOf raw)
-  unfolding isSymbol legOf
-  some-tag h =
-      let s = raw .symbol in
-      let k = limits (partsOf s) (and-both (isRoot (slice 0 6 s) && areDigits 10 48 (slice 6 12 s) && areDigits 10 48 (slice 13 21 s)) (inLimits (partsOf s)) h .1) in
-      omega (arith, k .from)
+  pub tested : length (raw .symbol) ≡ 21 → {n : ℕ} {b : Bool} → n ≡ tagAt (raw .symbol) (raw .bought) → eqb n 0 ≡ b → not (isSymbol (raw .symbol)) ≡ b
+  tested long e f = sym (tag-test (raw .symbol) long (raw .bought)) ∙ ap (λ (k : ℕ). eqb k 0) (sym e) ∙ f
 
-  leg-tag : isSymbol (raw .symbol) ≡ true → tagAt (raw .symbol) (raw .bought) ≡ tagOf false (legOf raw)
+  pub leg-tag : not (isSymbol (raw .symbol)) ≡ false → tagAt (raw .symbol) (raw .bought) ≡ tagOf false (legOf raw)
   unfolding legOf
-  leg-tag h = rw h
-
-  pub tag-none : (n : ℕ) → n ≡ tagAt (raw .symbol) (raw .bought) → n ≡ 0 → not (isSymbol (raw .symbol)) ≡ true
-  tag-none n e z = go (isSymbol (raw .symbol)) refl
-    where
-      go : (b : Bool) → isSymbol (raw .symbol) ≡ b → not b ≡ true
-      go true g = absurd (omega (arith, some-tag g, leg-tag g, e, z))
-      go false g = refl
-
-  pub tag-some : (n : ℕ) → n ≡ tagAt (raw .symbol) (raw .bought) → (n ≡ 0 → ⊥) → (isSymbol (raw .symbol) ≡ true) × (n ≡ tagOf false (legOf raw))
-  tag-some n e z = go (isSymbol (raw .symbol)) refl
-    where
-      go : (b : Bool) → isSymbol (raw .symbol) ≡ b → (b ≡ true) × (n ≡ tagOf false (legOf raw))
-      go true g = (refl, e ∙ leg-tag g)
-      go false g = absurd (z (e ∙ sym (outside (raw .symbol) (raw .bought) g)))
+  leg-tag h = rw (not-false (isSymbol (raw .symbol)) h)

@@ -31,8 +31,8 @@ fn is_root_after(known: u64, root: u64, b0: u8, b1: u8, b2: u8, b3: u8, b4: u8, 
     is_root(b0, b1, b2, b3, b4, b5)
 }
 
-// The tag of a leg whose root's number is `root`, or 0 where its symbol is outside the layout. No tag is 0: a year is at
-// least 2000.
+// The tag of a leg whose root's number is `root`, or 0 where its symbol is outside the layout. No tag is 0: a year is
+// at least 2000.
 fn tag_at(known: u64, root: u64, s: &[u8], bought: bool) -> u64
     requires { ⌜ IsKnown known × (length (now s) ≡ 21) × (root ≡ value 256 0 (slice 0 6 (now s))) ⌝ }
     ensures { λ r. ⌜ (r ≡ tagAt (now (s .entry)) bought) × (r < 40000000000000000) ⌝ }

@@ -42,7 +42,8 @@ pub fn is_unusable(m: Market) -> bool
     is_nbbo_unusable(m.nbb, m.nbo)
 }
 
-// Before the opening, with the option open elsewhere: `national` is the price that the order meets, `opposite` that of its own side.
+// Before the opening, with the option open elsewhere: `national` is the price that the order meets, `opposite` that of
+// its own side.
 fn elsewhere_reference(
     bought: bool,
     unusable: bool,

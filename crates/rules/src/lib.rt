@@ -24,7 +24,8 @@ pub struct SymbolRead {
     pub parts: SymbolParts,
 }
 
-// One leg as it arrives: the count's side and size, and 21 symbol bytes, whatever they hold. A count of 0 is bought, of size 0.
+// One leg as it arrives: the count's size and side, and 21 symbol bytes, whatever they hold. A count of 0 is bought, of
+// size 0.
 pub struct RawLeg {
     pub size: u64,
     pub bought: bool,
@@ -95,8 +96,8 @@ pub struct Settings {
     pub european: u64,
 }
 
-// The market's values. Phase: 0 pre-opening, 1 open, 2 halt. Open elsewhere, extended hours: 0 is no, any other value yes.
-// Amounts: 0 is missing.
+// The market's values. Phase: 0 pre-opening, 1 open, 2 halt. Open elsewhere, extended hours: 0 is no, any other value
+// yes. Amounts: 0 is missing.
 pub struct Market {
     pub phase: u64,
     pub elsewhere: u64,

@@ -28,7 +28,7 @@ use Rattle.rules.proofs.Symbols.{limits}
 use Rattle.rules.proofs.Numbering.{none-apply}
 use Rattle.chain.specs.Chain.{after}
 use Rattle.chain.proofs.Laws.{chained, goes-on, only-then, none-found}
-use Rattle.sorting.specs.Keys.{tagged}
+use Rattle.sorting.specs.Keys.{withPlaces}
 use Rattle.keys.specs.Tags.{keyOf, tagOf, isBought, placeOf}
 use Rattle.reading.specs.declared.Read.{Read}
 use Rattle.reading.specs.Legs.{readRefusals, IsRead}
@@ -106,8 +106,8 @@ side-of k true place e = sym (eq-eqb (place / 16 % 2) 1 (omega (arith, e)))
 side-of k false place e = sym (ne-eqb (place / 16 % 2) 1 (λ z. absurd (omega (arith, e, z))))
 
 -- of a simple order's leg
-first-side : (places : List ℕ) (ls : List Leg) → length ls ≡ 1 → take (length ls) places ≡ tagged 0 (map (tagOf false) ls) → getD ls 0 noLeg .bought ≡ isBought (getD places 0 0 / 16)
-unfolding tagged
+first-side : (places : List ℕ) (ls : List Leg) → length ls ≡ 1 → take (length ls) places ≡ withPlaces 0 (map (tagOf false) ls) → getD ls 0 noLeg .bought ≡ isBought (getD places 0 0 / 16)
+unfolding withPlaces
 first-side places [] h e = absurd (omega arith)
 first-side places (x ∷ []) h e =
     side-of (keyOf false (x .series)) (x .bought) (getD places 0 0) (sym (getD-take 1 places 0 0 (omega arith)) ∙ ap (λ (ps : List ℕ). getD ps 0 0) e)

@@ -3,50 +3,39 @@ use borrow.Author.Needs.{needs}
 use mathlib.Core.Path.{sym, ap, _∙_}
 use Prim.Native.Nat.{ℕ, _*_}
 use native.Mathlib.Omega.{arith}
+use native.Mathlib.Nat.{mul-le-mul}
 use Rattle.rules.specs.Checks.{isBelow}
 use Rattle.laws.proofs.Bounds.{settings-bounds}
-use Rattle.buy_buy.proofs.Legs.{within-sizes}
-use Rattle.buy_buy.proofs.Laws.{least-bound, buy-buy-tested, buy-buy-untested}
+use Rattle.buy_buy.proofs.Legs.{sizes-of}
+use Rattle.buy_buy.proofs.Laws.{buy-buy-tested, buy-buy-untested}
 use Rattle.buy_buy.proofs.buy_buy.Statement.{statement}
 use Rattle.buy_buy.proofs.buy_buy.Tie as tie
 
 sizes-requires : tie.Need-sizes-requires
 sizes-requires c κs =
     let s = c .before .before .before .before .before .before in
-    (s .pre .0, s .pre .2, within-sizes 0 (s .args .n) (s .args .tags .now) (s .args .units .now) (s .pre .1 ∙ sym (s .pre .2)) (s .pre .3 .each))
+    (s .pre .0, s .pre .2, sizes-of 0 (s .args .n) (s .args .tags .now) (s .args .units .now) (s .pre .1 ∙ sym (s .pre .2)) .1 (s .pre .3 .each))
 
 mul-is-below : tie.Need-mul-is-below
 mul-is-below c =
     let s = c .before .before .before .before .before .before .before .before in
-    omega (arith, least-bound (c .before .sizes .result) (s .args .st .increment .0) (c .before .sizes .ensures .1) (settings-bounds (s .args .st) (s .pre .3 .settings) .increment))
+    omega (arith, mul-le-mul (c .before .sizes .ensures .1) (settings-bounds (s .args .st) (s .pre .3 .settings) .increment))
 
 returns : tie.Need-returns
 returns c root =
-    let on = c .before .before .before .before .before in
-    let first = on .before .before in
-    let s = first .before .before in
+    let tested = c .before .before .before .before in
+    let on = tested .before in
+    let s = on .before .before .before .before in
     let a = s .args in
-    let below = ap (λ (n : ℕ). isBelow (first .is-bought .result) (a .t .price) (n * a .st .increment .0)) (c .before .before .sizes .ensures .0 root (a .tags .now) (s .pre .1)) in
-    buy-buy-tested (a .st) (a .t) (a .n) (a .tags .now) (a .units .now) (s .pre .3) root (first .is-bought .ensures) (on .all-on .ensures root (a .units .now) (s .pre .2)) (c .before .before .before .before .both .ensures) (c .before .before .before .if1 .taken) (c .is-below .ensures ∙ below)
+    let below = ap (λ (n : ℕ). isBelow (on .before .before .is-bought .result) (a .t .price) (n * a .st .increment .0)) (c .before .before .sizes .ensures .0 root (a .tags .now) (s .pre .1)) in
+    buy-buy-tested _ _ (a .n) (a .tags .now) (a .units .now) (s .pre .1) (s .pre .2) (s .pre .3) root (on .before .before .is-bought .ensures) (on .all-on .ensures root (a .units .now) (s .pre .2)) (tested .both .ensures) (c .before .before .before .if1 .taken) (c .is-below .ensures ∙ below)
 
 returns-2 : tie.Need-returns-2
 returns-2 c root =
     let on = c .before .before in
-    let first = on .before .before in
-    let s = first .before .before in
+    let s = on .before .before .before .before in
     let a = s .args in
-    buy-buy-untested (a .st) (a .t) (a .n) (a .tags .now) (a .units .now) (s .pre .3) root (first .is-bought .ensures) (on .all-on .ensures root (a .units .now) (s .pre .2)) (c .before .both .ensures) (c .if1 .left)
+    buy-buy-untested _ _ (a .n) (a .tags .now) (a .units .now) (s .pre .1) (s .pre .2) (s .pre .3) root (on .before .before .is-bought .ensures) (on .all-on .ensures root (a .units .now) (s .pre .2)) (c .before .both .ensures) (c .if1 .left)
 
 pub buy-buy-spec : {M : Type 1} → statement M
-buy-buy-spec =
-    tie.close
-    (tie.spec
-    (λ c. search needs)
-    (λ c κs. tt)
-    (λ c κs. search needs)
-    (λ c κs. tt)
-    sizes-requires
-    mul-is-below
-    (λ c κs. tt)
-    returns
-    returns-2)
+buy-buy-spec = tie.close (tie.spec (λ c. search needs) _ (λ c κs. search needs) _ sizes-requires mul-is-below _ returns returns-2)

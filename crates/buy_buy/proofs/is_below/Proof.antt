@@ -8,11 +8,4 @@ unfolding isBelow
 returns c = rw (c .either .ensures, c .before .before .choose .ensures, c .before .before .before .is-positive .ensures, c .before .before .before .before .is-negative .ensures)
 
 pub is-below-spec : {M : Type 1} → statement M
-is-below-spec =
-    tie.close
-    (tie.spec
-    (λ c κs. tt)
-    (λ c κs. tt)
-    (λ c κs. tt)
-    (λ c κs. tt)
-    returns)
+is-below-spec = tie.close (tie.spec _ _ _ _ returns)

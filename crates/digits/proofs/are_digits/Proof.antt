@@ -3,7 +3,7 @@ use borrow.Author.Needs.{needs}
 use native.Mathlib.Omega.{arith}
 use native.Mathlib.Numerals.{add-one}
 use mathlib.Core.Path.{_≡_, refl, sym, _∙_}
-use mathlib.Core.Bool.{true, false, _&&_}
+use mathlib.Core.Bool.{false, _&&_}
 use mathlib.Core.List.{List}
 use Prim.Native.Nat.{ℕ, suc, _+_, _-_, _≤_, _<_}
 use lib.ListN.{length, getD}
@@ -34,10 +34,6 @@ high s i to h k l m = step s i to h k ∙ rw (le-leb 48 (getD s i 0) l, le-ltb (
 pass : (s : List ℕ) (i to : ℕ) → i < to → to ≤ length s → 48 ≤ getD s i 0 → getD s i 0 < 58 → areDigits 10 48 (slice (i + 1) to s) ≡ areDigits 10 48 (slice i to s)
 pass s i to h k l m = sym (step s i to h k ∙ rw (le-leb 48 (getD s i 0) l, lt-ltb (getD s i 0) 58 m, add-one))
 
-done : (s : List ℕ) (i to : ℕ) → i ≡ to → areDigits 10 48 (slice i to s) ≡ true
-unfolding areDigits
-done s i to e = rw (e, slice-empty to s)
-
 returns : tie.Need-returns Inv-loop μ-loop
 returns c = let a = c .before .before .before .before .args in let l = c .before .before .before .loop in sym (sym (l .inv .0) ∙ low (a .s .now) (l .i) (a .to) (omega arith) (omega arith) (omega arith))
 
@@ -48,7 +44,8 @@ loop-again : tie.Need-loop-again Inv-loop μ-loop
 loop-again c = let a = c .before .before .before .before .before .args in let l = c .before .before .before .before .loop in (pass (a .s .now) (l .i) (a .to) (omega arith) (omega arith) (omega arith) (omega arith) ∙ l .inv .0, omega arith)
 
 returns-3 : tie.Need-returns-3 Inv-loop μ-loop
-returns-3 c = let a = c .before .before .args in let l = c .before .loop in sym (sym (l .inv .0) ∙ done (a .s .now) (l .i) (a .to) (omega arith))
+unfolding areDigits
+returns-3 c = let a = c .before .before .args in let l = c .before .loop in let e : l .i ≡ a .to = omega arith in sym (sym (l .inv .0) ∙ rw (e, slice-empty (a .to) (a .s .now)))
 
 pub are-digits-spec : {M : Type 1} → statement M
 are-digits-spec =

@@ -1,30 +1,26 @@
 -- The legs passed are read, and stand in the arrays.
 use borrow.Author.Needs.{needs}
 use mathlib.Core.Path.{_≡_, refl, sym, ap, _∙_}
+use mathlib.Core.Logic.{inl}
 use mathlib.Core.Bool.{Bool, true, cond, _||_}
 use Prim.Native.Nat.{ℕ, _-_, _≤_, _<_}
 use native.Mathlib.Omega.{arith}
-use lib.ListN.{length, take, getD, length-map, length-set}
-use borrow.Author.Tests.{not-false}
+use lib.ListN.{length, getD, length-map}
+use borrow.Author.Tests.{not-true, not-false, eq-eqb, ne-eqb}
 use Rattle.rules.specs.Limits.{within}
 use Rattle.rules.specs.Order.{noRawLeg}
-use Rattle.rules.proofs.Tests.{not-eq, within-both}
+use Rattle.rules.proofs.Tests.{within-both}
 use Rattle.symbol.proofs.Laws.{root-valued}
+use Rattle.sorting.specs.Keys.{withPlaces}
 use Rattle.keys.specs.Tags.{placeOf}
-use Rattle.reading.proofs.Tags.{tag-none, tag-some}
-use Rattle.reading.proofs.Lengths.{symbol-length}
-use Rattle.reading.proofs.Reading.{AreRead, none-read, next-read}
-use Rattle.reading.proofs.Answers.{no-legs, bad-symbol, all-read}
+use Rattle.reading.proofs.Tags.{symbol-length, tested, leg-tag}
+use Rattle.reading.proofs.Reading.{AreRead, next-read, no-legs, bad-symbol, all-read}
 use Rattle.reading.proofs.read_legs.Statement.{statement}
 use Rattle.reading.proofs.read_legs.Tie as tie
 
 abbrev Inv-loop : tie.InvT-loop
 Inv-loop places₀ sizes₀ roots₀ o n t first₀ number₀ other₀ i₀ places sizes roots first number other i =
-    AreRead first₀ (take i (o .legs)) places sizes roots first number other
-    × (length places ≡ 16)
-    × (length sizes ≡ 16)
-    × (length roots ≡ 16)
-    × (i ≤ n)
+    AreRead o i places sizes roots first number other × (i ≤ n)
 
 abbrev μ-loop : tie.MeasureT-loop
 μ-loop places₀ sizes₀ roots₀ o n t first₀ number₀ other₀ i₀ places sizes roots first number other i =
@@ -50,25 +46,19 @@ returns : tie.Need-returns Inv-loop μ-loop
 returns c =
     let t = c .before in
     let s = t .before .before .before .before in
-    no-legs (s .args .t1) _ _ _ (s .pre .0) (s .pre .1) (s .pre .2) _ (c .read-of .ensures) (sym (t .before .before .within .ensures) ∙ not-eq _ (sym (t .before .negated .ensures) ∙ t .if1 .taken))
+    no-legs (s .args .t1) (c .read-of .ensures) (s .pre) (sym (t .before .before .within .ensures) ∙ not-true _ (sym (t .before .negated .ensures) ∙ t .if1 .taken))
 
 loop-holds : tie.Need-loop-holds Inv-loop μ-loop
+unfolding withPlaces
 loop-holds c =
-    let s = c .before .before .before .before in
-    (none-read _ (s .args .places .now) (s .args .sizes .now) (s .args .roots .now) (λ h. absurd (omega (arith, h))), s .pre .0, s .pre .1, s .pre .2, omega arith)
-
-slice-aggregate-tag-at : tie.Need-slice-aggregate-tag-at Inv-loop μ-loop
-slice-aggregate-tag-at c =
-    let l = c .before .before .before .before in
-    sym (long (l .before .before .before .before .before .before) (l .before .loop .i) (few l))
+    (record { full = c .before .before .before .before .pre; eachTag = refl; eachSize = refl; eachRoot = refl; symbols = refl; counts = refl; others = refl; known = λ h. absurd (omega (arith, h)); starts = inl refl }, omega arith)
 
 tag-at-requires : tie.Need-tag-at-requires Inv-loop μ-loop
 tag-at-requires c κs =
     let l = c .before .before .before .before in
     let s = l .before .before .before .before .before .before in
-    let raw = getD (s .args .t1 .legs) (l .before .loop .i) noRawLeg in
     let h = long s (l .before .loop .i) (few l) in
-    (l .before .loop .inv .0 .known, h, root-valued (raw .symbol) h (c .before .root-of .ensures))
+    (l .before .loop .inv .0 .known, h, root-valued (getD (s .args .t1 .legs) (l .before .loop .i) noRawLeg .symbol) h (c .before .root-of .ensures))
 
 returns-2 : tie.Need-returns-2 Inv-loop μ-loop
 returns-2 c =
@@ -76,8 +66,8 @@ returns-2 c =
     let l = t .before .before .before .before .before in
     let s = l .before .before .before .before .before .before in
     let v = l .before .loop in
-    let raw = getD (s .args .t1 .legs) (v .i) noRawLeg in
-    bad-symbol (s .args .t1) _ _ _ (v .inv .1) (v .inv .2) (v .inv .3) (some (l .before .before)) _ (c .read-of2 .ensures) (v .i) (l .loop-test .taken) (omega (arith, full s, few l)) (tag-none raw _ (t .tag-at .ensures .0) (c .before .if2 .taken))
+    let bad = tested (getD (s .args .t1 .legs) (v .i) noRawLeg) (long s (v .i) (few l)) (t .tag-at .ensures .0) (eq-eqb _ 0 (c .before .if2 .taken)) in
+    bad-symbol (s .args .t1) (full s) (some (l .before .before)) (v .inv .0) (c .read-of2 .ensures) (l .loop-test .taken) bad
 
 loop-again : tie.Need-loop-again Inv-loop μ-loop
 loop-again c =
@@ -88,20 +78,12 @@ loop-again c =
     let v = l .before .loop in
     let h = long s (v .i) (few l) in
     let raw = getD (s .args .t1 .legs) (v .i) noRawLeg in
-    let tag = tag-some raw _ (t .tag-at .ensures .0) (n .before .before .before .before .if2 .left) in (
-      next-read (v .i) (omega (arith, v .inv .1, few l)) (omega (arith, v .inv .2, few l)) (omega (arith, v .inv .3, few l)) (s .args .t1 .legs) (omega (arith, full s, few l)) (v .inv .0)
-          (record {
-            long = h;
-            good = tag .0;
-            tag = n .before .before .before .place-of .ensures ∙ ap (λ (k : ℕ). placeOf k (v .i)) (tag .1);
-            bytes = root-valued (raw .symbol) h (t .before .before .root-of .ensures);
-            starts = refl;
-            counts = n .pick .ensures ∙ ap (λ (b : Bool). cond b (v .number) 5) (n .before .within2 .ensures);
-            others = c .either .ensures ∙ ap (λ (b : Bool). v .other || b) (c .before .negated2 .ensures);
-          }),
-      length-set (v .places) (v .i) _ ∙ v .inv .1,
-      length-set (v .sizes) (v .i) _ ∙ v .inv .2,
-      length-set (v .roots) (v .i) _ ∙ v .inv .3,
+    let good = tested raw h (t .tag-at .ensures .0) (ne-eqb _ 0 (n .before .before .before .before .if2 .left)) in (
+      next-read (s .args .t1) (full s) (some (l .before .before)) (v .inv .0) (l .loop-test .taken) h good
+          (n .before .before .before .place-of .ensures ∙ ap (λ (k : ℕ). placeOf k (v .i)) (t .tag-at .ensures .0 ∙ leg-tag raw good))
+          (root-valued (raw .symbol) h (t .before .before .root-of .ensures))
+          (n .pick .ensures ∙ ap (λ (b : Bool). cond b (v .number) 5) (n .before .within2 .ensures))
+          (c .either .ensures ∙ ap (λ (b : Bool). v .other || b) (c .before .negated2 .ensures)),
       omega (arith, l .loop-test .taken),
     )
 
@@ -109,9 +91,7 @@ returns-3 : tie.Need-returns-3 Inv-loop μ-loop
 returns-3 c =
     let l = c .before .before in
     let s = l .before .before .before .before .before in
-    let v = l .loop in
-    let e : v .i ≡ s .args .t1 .len = omega (arith, c .before .loop-test .left, v .inv .4) in
-    all-read (s .args .t1) _ _ _ (v .inv .1) (v .inv .2) (v .inv .3) (some (l .before)) _ _ (v .first) (v .number) (v .other) (c .read-of3 .ensures) (rw e at (v .inv .0))
+    all-read (s .args .t1) (full s) (some (l .before)) (l .loop .inv .0) (c .read-of3 .ensures) (omega (arith, c .before .loop-test .left, l .loop .inv .1))
 
 pub read-legs-spec : {M : Type 1} → statement M
 read-legs-spec =
@@ -133,7 +113,7 @@ read-legs-spec =
     (λ c. search needs)
     (λ c. search needs)
     (λ c κs. tt)
-    slice-aggregate-tag-at
+    (λ c. sym (long (c .before .before .before .before .before .before .before .before .before .before) _ (few (c .before .before .before .before))))
     tag-at-requires
     (λ c κs. tt)
     returns-2

@@ -1,15 +1,14 @@
 -- The key does not stand in what is passed: what is found from here on is what there is behind it.
 use borrow.Author.Needs.{needs}
-use mathlib.Core.Path.{_≡_, refl, sym, ap₂, _∙_}
-use mathlib.Core.Bool.{true, false, _&&_}
-use Prim.Native.Nat.{ℕ, _-_, _≤_}
+use mathlib.Core.Path.{_≡_, refl, sym, _∙_}
+use mathlib.Core.Bool.{true, false}
+use Prim.Native.Nat.{_-_}
 use native.Mathlib.Omega.{arith}
-use lib.ListN.{length, take, drop, getD}
-use lib.Dec.{eqb}
+use lib.ListN.{take, drop, getD}
 use Rattle.rules.specs.Lists.{any}
-use Rattle.loops.proofs.Finding.{any-turn, any-end}
+use Rattle.loops.proofs.Finding.{any-end}
 use Rattle.series_refusals.specs.Twice.{noKey, keysOf, isSameKey, standsAgain}
-use Rattle.series_refusals.proofs.Laws.{keys-fit, compared}
+use Rattle.series_refusals.proofs.Laws.{keys-fit, again-turn}
 use Rattle.series_refusals.proofs.stands_again.Statement.{statement}
 use Rattle.series_refusals.proofs.stands_again.Tie as tie
 
@@ -19,35 +18,17 @@ Inv-loop places roots n at key root i₀ i = any (isSameKey (getD (keysOf places
 abbrev μ-loop : tie.MeasureT-loop
 μ-loop places roots n at key root i₀ i = n - i
 
-fits : (c : tie.Start Inv-loop μ-loop) → c .args .n ≤ length (keysOf (c .args .places .now) (c .args .roots .now))
-fits c = keys-fit (c .args .places .now) (c .args .roots .now) (c .pre .2) (c .pre .3) (c .args .n) (c .pre .0)
-
 returns : tie.Need-returns Inv-loop μ-loop
 returns c =
-    let l = c .before .before .before .before .before .before .loop in
-    let s = c .before .before .before .before .before .before .before .before .before .before in
-    let a = s .args in
-    let ks = keysOf (a .places .now) (a .roots .now) in
-    let same = compared (a .places .now) (a .roots .now) (s .pre .2) (s .pre .3) (a .at) (l .i) (omega (arith, s .pre)) (omega (arith, s .pre)) in
-    let keys = ap₂ (λ (k m : ℕ). eqb k m && eqb (getD (a .roots .now) (a .at) 0) (getD (a .roots .now) (l .i) 0)) (c .before .before .before .before .before .before .before .before .key-in .ensures) (c .before .before .before .key-in2 .ensures) in
-    any-turn noKey ks (a .n) (fits s) (isSameKey (getD ks (a .at) noKey)) false true (l .i) (omega arith) (sym (c .if1 .taken) ∙ c .before .both .ensures ∙ keys ∙ same) ∙ l .inv
+    let at = c .before .before .before .before .before .before in
+    let s = at .before .before .before .before in
+    again-turn _ _ (s .pre .2) (s .pre .3) _ (s .pre .0) _ (at .loop .i) (s .pre .1) (omega arith) true _ _ (at .before .before .key-in .ensures) (c .before .before .before .key-in2 .ensures) (sym (c .if1 .taken) ∙ c .before .both .ensures) ∙ at .loop .inv
 
 loop-again : tie.Need-loop-again Inv-loop μ-loop
 loop-again c =
-    let l = c .before .before .before .before .before .before .loop in
-    let s = c .before .before .before .before .before .before .before .before .before .before in
-    let a = s .args in
-    let ks = keysOf (a .places .now) (a .roots .now) in
-    let same = compared (a .places .now) (a .roots .now) (s .pre .2) (s .pre .3) (a .at) (l .i) (omega (arith, s .pre)) (omega (arith, s .pre)) in
-    let keys = ap₂ (λ (k m : ℕ). eqb k m && eqb (getD (a .roots .now) (a .at) 0) (getD (a .roots .now) (l .i) 0)) (c .before .before .before .before .before .before .before .before .key-in .ensures) (c .before .before .before .key-in2 .ensures) in
-    any-turn noKey ks (a .n) (fits s) (isSameKey (getD ks (a .at) noKey)) false false (l .i) (omega arith) (sym (c .if1 .left) ∙ c .before .both .ensures ∙ keys ∙ same) ∙ l .inv
-
-returns-2 : tie.Need-returns-2 Inv-loop μ-loop
-returns-2 c =
-    let l = c .before .loop in
-    let s = c .before .before .before .before .before in
-    let ks = keysOf (s .args .places .now) (s .args .roots .now) in
-    sym (any-end noKey ks (s .args .n) (fits s) (isSameKey (getD ks (s .args .at) noKey)) false (l .i) (omega arith)) ∙ l .inv
+    let at = c .before .before .before .before .before .before in
+    let s = at .before .before .before .before in
+    again-turn _ _ (s .pre .2) (s .pre .3) _ (s .pre .0) _ (at .loop .i) (s .pre .1) (omega arith) false _ _ (at .before .before .key-in .ensures) (c .before .before .before .key-in2 .ensures) (sym (c .if1 .left) ∙ c .before .both .ensures) ∙ at .loop .inv
 
 pub stands-again-spec : {M : Type 1} → statement M
 stands-again-spec =
@@ -72,4 +53,4 @@ stands-again-spec =
     (λ c. search needs)
     (λ c. search needs)
     loop-again
-    returns-2)
+    (λ c. let s = c .before .before .before .before .before in sym (any-end noKey _ _ (keys-fit _ _ (s .pre .2) (s .pre .3) _ (s .pre .0)) _ false (c .before .loop .i) (omega arith)) ∙ c .before .loop .inv))

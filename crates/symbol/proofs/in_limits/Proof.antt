@@ -4,22 +4,8 @@ use Rattle.symbol.proofs.in_limits.Tie as tie
 
 returns : tie.Need-returns
 unfolding inLimits
-returns c =
-    rw (
-      c .both2 .ensures,
-      c .before .within .ensures,
-      c .before .before .both .ensures,
-      c .before .before .before .either .ensures,
-      c .before .before .before .before .before .before .day-exists .ensures,
-    )
+returns c = cc
 
 pub in-limits-spec : {M : Type 1} → statement M
 in-limits-spec =
-    tie.close
-    (tie.spec
-    (λ c κs. tt)
-    (λ c κs. tt)
-    (λ c κs. tt)
-    (λ c κs. tt)
-    (λ c κs. tt)
-    returns)
+    tie.close (tie.spec (λ c κs. tt) (λ c κs. tt) (λ c κs. tt) (λ c κs. tt) (λ c κs. tt) returns)

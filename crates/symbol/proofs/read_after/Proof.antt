@@ -1,6 +1,6 @@
 -- Test by test, then part by part.
-use mathlib.Core.Path.{_≡_, sym, _∙_}
-use mathlib.Core.Bool.{true}
+use mathlib.Core.Path.{_≡_, sym, ap, _∙_}
+use mathlib.Core.Bool.{Bool, true, false, cond}
 use mathlib.Core.List.{List}
 use Prim.Native.Nat.{ℕ, _+_}
 use lib.Seq.{slice}
@@ -8,17 +8,15 @@ use borrow.Author.Needs.{needs}
 use borrow.Author.Tests.{not-false}
 use Rattle.rules.specs.declared.SymbolParts.{SymbolParts}
 use Rattle.rules.specs.Numerals.{areDigits}
-use Rattle.rules.specs.Symbol.{partsOf}
-use Rattle.rules.proofs.Slices.{bytesAt}
+use Rattle.rules.specs.Symbol.{inLimits, partsOf, readSymbol, refusedRead}
 use Rattle.rules.proofs.Tests.{not-eq}
-use Rattle.symbol.proofs.Laws.{expiry-digits, strike-digits, parts-read, no-expiry, no-strike, within-limits, outside-limits}
+use Rattle.symbol.proofs.Laws.{DigitsApart, digits-apart, parts-read, read-tested}
 use Rattle.symbol.proofs.read_after.Statement.{statement}
 use Rattle.symbol.proofs.read_after.Tie as tie
 
--- where the expiry's bytes are digits
-module _ (c : tie.Else1) where
-  expiry : areDigits 10 48 (slice 6 12 (c .before .before .before .before .args .s .now)) ≡ true
-  expiry = sym (c .before .before .are-digits .ensures) ∙ not-false _ (sym (c .before .negated .ensures) ∙ c .if1 .left)
+-- the expiry's bytes are digits
+expiry : (c : tie.Else1) → areDigits 10 48 (slice 6 12 (c .before .before .before .before .args .s .now)) ≡ true
+expiry c = sym (c .before .before .are-digits .ensures) ∙ not-false _ (sym (c .before .negated .ensures) ∙ c .if1 .left)
 
 -- where the strike's are too
 module _ (c : tie.Else2) where
@@ -31,83 +29,61 @@ module _ (c : tie.Else2) where
   strike : areDigits 10 48 (slice 13 21 bytes) ≡ true
   strike = sym (c .before .before .are-digits2 .ensures) ∙ not-false _ (sym (c .before .negated2 .ensures) ∙ c .if2 .left)
 
-  -- year, month and day
-  pairs : (areDigits 10 48 (bytesAt 2 6 bytes) ≡ true) × (areDigits 10 48 (bytesAt 2 8 bytes) ≡ true) × (areDigits 10 48 (bytesAt 2 10 bytes) ≡ true)
-  pairs = expiry-digits bytes (start .pre .0) (expiry (c .before .before .before))
+  apart : DigitsApart bytes
+  apart = digits-apart bytes (start .pre .0) (expiry (c .before .before .before)) strike
 
--- the place of that in later ones
-abbrev past-two2 : tie.After-two2 → tie.Else2
-past-two2 c = c .before .before .before .before .before .before
+-- the places where the parts are read, each from the next
+abbrev year : tie.After-two2 → tie.After-two
+year c = c .before .before .before
 
-abbrev past-wide : tie.After-wide → tie.Else2
-past-wide c = past-two2 (c .before .before .before .before .before)
+abbrev month : tie.After-wide → tie.After-two2
+month c = c .before .before .before .before .before
+
+abbrev right : tie.After-eight → tie.After-wide
+right c = c .before .before .before .before .before .before .before .before .before
+
+abbrev tested : tie.After-two2 → tie.Else2
+tested c = year c .before .before .before
 
 -- where all parts are read
 module _ (c : tie.After-eight) where
-  abbrev right : tie.After-wide
-  right = c .before .before .before .before .before .before .before .before .before
+  abbrev s : List ℕ
+  s = bytes (tested (month (right c)))
 
-  abbrev tested : tie.Else2
-  tested = past-wide right
-
-  abbrev parts : SymbolParts
-  parts =
-      let day = right .before .before in
-      let month = day .before .before .before in
-      let year = month .before .before .before in
-      record {
-        root = start tested .args .root;
-        year = 2000 + year .two .result;
-        month = month .two2 .result;
-        day = day .two3 .result;
-        right = right .wide .result;
-        strike = record { 0 = c .eight .result };
-      }
-
-  parts-right : parts ≡ partsOf (bytes tested)
+  parts-right : let r = right c in let m = month r in
+      record { root = start (tested m) .args .root; year = 2000 + year m .two .result; month = m .two2 .result; day = r .before .before .two3 .result; right = r .wide .result; strike = record { 0 = c .eight .result } } ≡ partsOf s
   parts-right =
-      let day = right .before .before in
-      let month = day .before .before .before in
-      let year = month .before .before .before in
-      parts-read _ (start tested .pre .0) (start tested .pre .1) (year .two .ensures .0) (month .two2 .ensures .0) (day .two3 .ensures .0) (right .wide .ensures .0) (c .eight .ensures .0)
+      let r = right c in
+      let m = month r in
+      let pre = start (tested m) .pre in
+      parts-read s (pre .0) (pre .1) (year m .two .ensures .0) (m .two2 .ensures .0) (r .before .before .two3 .ensures .0) (r .wide .ensures .0) (c .eight .ensures .0)
+
+  -- the limits decide
+  answer : (b : Bool) → inLimits (partsOf s) ≡ b → readSymbol s ≡ cond b (record { number = 0; parts = partsOf s }) (refusedRead 4)
+  answer b h = let t = tested (month (right c)) in read-tested s (start t .pre .0) true (rw (start t .pre .2, expiry (t .before .before .before), strike t)) ∙ rw h
 
 returns : tie.Need-returns
 returns c =
     let e = c .before .before .before .before .before in
-    c .refused .ensures
-    ∙ sym (no-expiry _ (e .pre .0) (e .pre .2) (sym (c .before .before .before .are-digits .ensures) ∙ not-eq _ (sym (c .before .before .negated .ensures) ∙ c .before .if1 .taken)))
+    let d = not-eq (c .before .before .before .are-digits .result) cc in
+    c .refused .ensures ∙ sym (read-tested _ (e .pre .0) false (rw (e .pre .2, sym (c .before .before .before .are-digits .ensures) ∙ d)))
 
 returns-2 : tie.Need-returns-2
 returns-2 c =
     let e = c .before .before .before .before in
     let b = e .before .before .before .before in
-    c .refused2 .ensures
-    ∙ sym (no-strike _ (b .pre .0) (b .pre .2) (expiry e) (sym (c .before .before .before .are-digits2 .ensures) ∙ not-eq _ (sym (c .before .before .negated2 .ensures) ∙ c .before .if2 .taken)))
-
-two-requires : tie.Need-two-requires
-two-requires c κs = pairs (c .before .before) .0
-
-two-requires-2 : tie.Need-two-requires-2
-two-requires-2 c κs = pairs (c .before .before .before .before .before) .1
-
-two-requires-3 : tie.Need-two-requires-3
-two-requires-3 c κs = pairs (past-two2 (c .before .before)) .2
-
-eight-requires : tie.Need-eight-requires
-eight-requires c κs = let e = past-wide (c .before .before .before .before .before .before .before .before) in strike-digits (bytes e) (start e .pre .0) (strike e)
+    let d = not-eq (c .before .before .before .are-digits2 .result) cc in
+    c .refused2 .ensures ∙ sym (read-tested _ (b .pre .0) false (rw (b .pre .2, expiry e, sym (c .before .before .before .are-digits2 .ensures) ∙ d)))
 
 returns-3 : tie.Need-returns-3
 returns-3 c =
-    let e = c .before .before in
-    let t = tested e in
-    within-limits _ (start t .pre .0) (start t .pre .2) (expiry (t .before .before .before)) (strike t) (parts e) (parts-right e) (sym (c .before .in-limits .ensures) ∙ c .if3 .taken)
+    let p = parts-right (c .before .before) in
+    ap (λ (q : SymbolParts). record { number = 0; parts = q }) p ∙ sym (answer (c .before .before) true (sym (ap inLimits p) ∙ sym (c .before .in-limits .ensures) ∙ c .if3 .taken))
 
 returns-4 : tie.Need-returns-4
 returns-4 c =
     let e = c .before .before .before in
-    let t = tested e in
-    c .refused3 .ensures
-    ∙ sym (outside-limits _ (start t .pre .0) (start t .pre .2) (expiry (t .before .before .before)) (strike t) (parts e) (parts-right e) (sym (c .before .before .in-limits .ensures) ∙ c .before .if3 .left))
+    c .refused3 .ensures ∙ sym (answer e false (sym (ap inLimits (parts-right e)) ∙ sym (c .before .before .in-limits .ensures) ∙ c .before .if3 .left))
 
 pub read-after-spec : {M : Type 1} → statement M
 read-after-spec =
@@ -123,14 +99,14 @@ read-after-spec =
     returns-2
     (λ c. search needs)
     (λ c. search needs)
-    two-requires
+    (λ c κs. apart (c .before .before) .0)
     (λ c. search needs)
     (λ c. search needs)
     (λ c. search needs)
-    two-requires-2
+    (λ c κs. apart (c .before .before .before .before .before) .1)
     (λ c. search needs)
     (λ c. search needs)
-    two-requires-3
+    (λ c κs. apart (tested (c .before .before)) .2)
     (λ c. search needs)
     (λ c κs. tt)
     (λ c. search needs)
@@ -141,7 +117,7 @@ read-after-spec =
     (λ c. search needs)
     (λ c. search needs)
     (λ c. search needs)
-    eight-requires
+    (λ c κs. apart (tested (month (c .before .before .before .before .before .before .before .before))) .3)
     (λ c κs. tt)
     returns-3
     (λ c κs. tt)
