@@ -15,7 +15,7 @@ use Rattle.rules.specs.Checks.{sizes}
 use Rattle.rules.specs.Valid.{UnitWithin, ComplexOrder}
 use Rattle.laws.proofs.Simple.{simple-same}
 use Rattle.keys.specs.Tags.{isBought, legAt, legsFrom, legsIn}
-use Rattle.keys.proofs.Zip.{zip-at}
+use Rattle.arranging.proofs.Zip.{zip-at}
 
 -- sides are the tags'
 pub sides-of : (root : ℕ) (f : Bool → Bool) (n : ℕ) (tags units : List ℕ) → length tags ≡ length units

@@ -22,7 +22,7 @@ use Rattle.rules.specs.Numbers.{rejection, judged}
 use Rattle.rules.specs.Valid.{UnitWithin, ComplexOrder}
 use Rattle.laws.proofs.Simple.{simple-same}
 use Rattle.keys.specs.Tags.{legAt, legsFrom, legsIn, ValidTags}
-use Rattle.keys.proofs.Zip.{zip-length}
+use Rattle.arranging.proofs.Zip.{zip-length}
 use Rattle.complex_checks.proofs.Laws.{strike-bound}
 
 -- ---- answers

@@ -1,6 +1,1 @@
 pub mod Keys
-pub mod Zip
-pub mod Places
-pub mod Back
-pub mod Arranging
-pub mod Valid

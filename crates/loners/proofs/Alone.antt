@@ -9,7 +9,7 @@ use Rattle.rules.specs.declared.Leg.{Leg}
 use Rattle.rules.specs.Order.{noLeg}
 use Rattle.keys.specs.Tags.{legAt, legsFrom}
 use Rattle.tagged.specs.declared.PairTally.{PairTally}
-use Rattle.keys.proofs.Zip.{zip-length, zip-at}
+use Rattle.arranging.proofs.Zip.{zip-length, zip-at}
 use Rattle.loops.proofs.Finding.{step, over}
 use Rattle.loners.specs.Tallies.{aloneWith, aloneAt, allAlone}
 

@@ -1,5 +1,5 @@
 -- The definitions of the order check, case by case.
-use mathlib.Core.Path.{_≡_, refl, sym, ap, _∙_}
+use mathlib.Core.Path.{_≡_, refl, sym, ap, ap₂, _∙_}
 use mathlib.Core.List.{List, [], _∷_, _++_, map}
 use mathlib.Core.Bool.{Bool, true, false, cond}
 use Prim.Native.Nat.{ℕ, zero, suc, _/_, _≤_, _<_}
@@ -20,7 +20,7 @@ use Rattle.rules.specs.Numbers.{firstOf, refusal, judged, refused, outcome, che
 use Rattle.order_record.specs.Slices.{Recorded}
 use Rattle.sorting.specs.Keys.{sortKeys, withPlaces}
 use Rattle.keys.specs.Tags.{tagOf, legsIn, ValidTags, Arranged}
-use Rattle.keys.proofs.Valid.{rootOf, valid-tags, valid-legs}
+use Rattle.arranging.proofs.Valid.{rootOf, valid-tags, valid-legs}
 use Rattle.reading.specs.declared.Read.{Read}
 use Rattle.reading.specs.Legs.{readRefusals, GoodRead, IsRead}
 use Rattle.validity.specs.Orders.{Refuses}
@@ -40,7 +40,7 @@ module _ (st : Settings) (m : Market) where
   unfolding checkOrder checkLegs
   order-refused o n e h = ap (λ (k : ℕ). outcome k (judged st m (o .terms) (byStrike (legsOf (recordLegs o))))) (sym e) ∙ outcome-some n _ h
 
-  pub order-valid : (o : Order) (n : ℕ) → n ≡ refusal st m (o .terms) (o .len) (recordLegs o) → n ≡ 0 → checkOrder st m o ≡ judged st m (o .terms) (byStrike (legsOf (recordLegs o)))
+  order-valid : (o : Order) (n : ℕ) → n ≡ refusal st m (o .terms) (o .len) (recordLegs o) → n ≡ 0 → checkOrder st m o ≡ judged st m (o .terms) (byStrike (legsOf (recordLegs o)))
   unfolding checkOrder checkLegs
   order-valid o n e h = outcome-none _ _ (sym e ∙ h)
 
@@ -116,5 +116,9 @@ module _ (st : Settings) (m : Market) (o : Order) (full : length (o .legs) ≡ 1
     pub order-tags : ValidTags (read .len) tags left
     order-tags = valid-tags ls (valid-order .2) (read .len) many few after sizes tags left order counts arranged
 
-    pub order-legs : legsIn (rootOf ls) false (read .len) tags left ≡ byStrike ls
+    order-legs : legsIn (rootOf ls) false (read .len) tags left ≡ byStrike ls
     order-legs = valid-legs ls (valid-order .2) (read .len) many few after sizes tags left order counts arranged
+
+    -- what is judged of the arrays, with the order's terms, is the answer
+    pub order-judged : (t : Terms) (a : OrderAnswer) → t ≡ o .terms → ((root : ℕ) → a ≡ judged st m t (legsIn root false (read .len) tags left)) → a ≡ checkOrder st m o
+    order-judged t a e h = h (rootOf ls) ∙ ap₂ (judged st m) e order-legs ∙ sym (order-valid st m o r (refuses .number o sizes full is) none)

@@ -21,7 +21,7 @@ ghost use Rattle.rules.specs.Pairing as pairing;
 ghost use Rattle.sorting.specs.Keys.{withPlaces, EachTwo};
 ghost use Rattle.keys.specs.Tags.{secondTag, legsIn, Tagged};
 ghost use Rattle.loners.specs.Tallies.{tallyClass};
-ghost use Rattle.pairing.specs.Both.{tallied, BothWalks};
+ghost use Rattle.walks.specs.Both.{tallied, BothWalks};
 
 pub struct Paired {
     pub pairings: u64,

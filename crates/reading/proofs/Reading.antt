@@ -23,10 +23,11 @@ use Rattle.loops.proofs.Filling.{fill-turn}
 use Rattle.loops.proofs.Finding.{step, over, any-turn, any-end}
 use Rattle.sorting.specs.Keys.{withPlaces}
 use Rattle.keys.specs.Tags.{tagOf, placeOf}
-use Rattle.keys.proofs.Places.{place-turn}
+use Rattle.arranging.proofs.Places.{place-turn}
 use Rattle.reading.specs.declared.Read.{Read}
-use Rattle.reading.specs.Legs.{IsKnown, readRefusals, GoodRead, IsRead}
-use Rattle.reading.proofs.Tags.{root-known}
+use Rattle.leg_tag.specs.Known.{IsKnown}
+use Rattle.reading.specs.Legs.{readRefusals, GoodRead, IsRead}
+use Rattle.leg_tag.proofs.Tags.{root-known}
 
 -- ---- what is known
 

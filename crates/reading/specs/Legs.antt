@@ -1,32 +1,18 @@
 -- What reading an order's legs says.
 use mathlib.Core.Path.{_≡_}
 use mathlib.Core.List.{List, [], _∷_}
-use mathlib.Core.Bool.{Bool, true, false, cond, not}
-use Prim.Native.Nat.{ℕ, _+_, _*_, _^_, _≤_, _<_}
+use mathlib.Core.Bool.{Bool, not}
+use Prim.Native.Nat.{ℕ, _≤_}
 use lib.ListN.{length}
 use Rattle.rules.specs.declared.RawLeg.{RawLeg}
 use Rattle.rules.specs.declared.Order.{Order}
 use Rattle.rules.specs.Limits.{within}
 use Rattle.rules.specs.Lists.{any, somePair}
-use Rattle.rules.specs.Numerals.{numeral}
-use Rattle.rules.specs.Symbol.{isRoot, partsOf, isSymbol}
-use Rattle.rules.specs.Order.{recordLegs, seriesOf, legsOf}
-use Rattle.rules.specs.Pairing.{digit}
+use Rattle.rules.specs.Symbol.{isSymbol}
+use Rattle.rules.specs.Order.{recordLegs, legsOf}
 use Rattle.rules.specs.Numbers.{firstOf, isBadCount, isOtherRoot}
-use Rattle.keys.specs.Tags.{keyOf, Placed}
+use Rattle.keys.specs.Tags.{Placed}
 use Rattle.reading.specs.declared.Read.{Read}
-
--- ---- one leg
-
--- a root's number, or one that no six bytes say
-abbrev pub IsKnown : ℕ → Type 0
-IsKnown known = known < 256 ^ 6 → isRoot (numeral 256 0 6 known) ≡ true
-
--- the tag of a leg with these symbol bytes on this side, 0 where they are outside the layout
-abbrev pub tagAt : List ℕ → Bool → ℕ
-tagAt s bought = cond (isSymbol s) (keyOf false (seriesOf (partsOf s)) * 2 + digit bought) 0
-
--- ---- the legs of an order
 
 -- refusals 3, 4 and 5, which reading finds
 abbrev pub readRefusals : ℕ → List RawLeg → List (Bool × ℕ)

@@ -18,9 +18,9 @@ use Rattle.loops.proofs.Finding.{step, any-turn}
 use Rattle.sorting.specs.Keys.{sortKeys, withPlaces, EachTwo}
 use Rattle.sorting.proofs.Laws.{sort-same, sort-ascends}
 use Rattle.keys.specs.Tags.{keyOf, tagOf, placeOf, keyIn, Placed}
-use Rattle.keys.proofs.Back.{key-tells, tag-half}
-use Rattle.keys.proofs.Valid.{rootOf, one-root, equal-series}
-use Rattle.keys.proofs.Zip.{zip-length, zip-at, zip-take}
+use Rattle.arranging.proofs.Back.{key-tells, tag-half}
+use Rattle.arranging.proofs.Valid.{rootOf, one-root, equal-series}
+use Rattle.arranging.proofs.Zip.{zip-length, zip-at, zip-take}
 use Rattle.series_refusals.specs.Twice.{isOneKey, someNext, noKey, withRoot, keysOf, isSameKey}
 
 -- ---- neighbours

@@ -14,7 +14,7 @@ use Rattle.rules.specs.Order.{noLeg}
 use Rattle.keys.specs.Tags.{groupOf, legAt, legsFrom, Tagged}
 use Rattle.tagged.specs.declared.PairTally.{PairTally}
 use Rattle.tagged.specs.Tags.{together, matchedAt, noteAt, none, noted, reached}
-use Rattle.keys.proofs.Zip.{zip-length, zip-at, zip-set}
+use Rattle.arranging.proofs.Zip.{zip-length, zip-at, zip-set}
 use Rattle.tagged.proofs.Tagging.{matched-tags, note-tags, matched-group}
 use Rattle.tagged.proofs.Walking.{View, view, start-legs, start-tally, met, over, put, walked-legs, walked-tally}
 

@@ -1,11 +1,8 @@
 -- A refusal is the definition's; the arrays of an order that has none are its legs, sorted.
 use borrow.Author.Needs.{needs}
-use mathlib.Core.Path.{_≡_, sym, ap₂, _∙_}
+use mathlib.Core.Path.{_≡_, sym, _∙_}
 use lib.ListN.{length, length-map}
-use Rattle.rules.specs.Order.{recordLegs, legsOf}
-use Rattle.rules.specs.Numbers.{judged}
-use Rattle.keys.proofs.Valid.{rootOf}
-use Rattle.order_check.proofs.Laws.{order-refused, order-valid, valid-order, read-length, order-tags, order-legs}
+use Rattle.order_check.proofs.Laws.{order-refused, valid-order, read-length, order-tags, order-judged}
 use Rattle.order_check.proofs.check_order.Statement.{statement}
 use Rattle.order_check.proofs.check_order.Tie as tie
 
@@ -40,10 +37,7 @@ returns-2 c =
     let s = start q in
     let a = s .args in
     let is = q .before .before .before .before .read-legs .ensures in
-    let legs = order-legs (a .st) (a .m) (a .o) (full s) _ _ _ _ _ _ is (q .refusal .ensures) (e .if1 .left) _ _ (c .before .before .before .arrange .ensures) in
-    c .judge .ensures (rootOf (legsOf (recordLegs (a .o))))
-    ∙ ap₂ (judged (a .st) (a .m)) (is .terms) legs
-    ∙ sym (order-valid (a .st) (a .m) (a .o) _ (q .refusal .ensures .number (a .o) _ (full s) is) (e .if1 .left))
+    order-judged (a .st) (a .m) (a .o) (full s) _ _ _ _ _ _ is (q .refusal .ensures) (e .if1 .left) _ _ (c .before .before .before .arrange .ensures) _ (c .judge .result) (is .terms) (c .judge .ensures)
 
 pub check-order-spec : {M : Type 1} → statement M
 check-order-spec =

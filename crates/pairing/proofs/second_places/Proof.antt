@@ -7,7 +7,7 @@ use native.Mathlib.Omega.{arith}
 use lib.ListN.{length, take, length-set}
 use Rattle.sorting.specs.Keys.{withPlaces}
 use Rattle.keys.specs.Tags.{secondTag, placeOf}
-use Rattle.keys.proofs.Places.{place-turn}
+use Rattle.arranging.proofs.Places.{place-turn}
 use Rattle.tagged.proofs.Numbered.{tag-at-small}
 use Rattle.pairing.proofs.second_places.Statement.{statement}
 use Rattle.pairing.proofs.second_places.Tie as tie

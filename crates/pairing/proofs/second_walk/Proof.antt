@@ -2,7 +2,7 @@
 use borrow.Author.Needs.{needs}
 use mathlib.Core.Path.{ap, _∙_}
 use Rattle.sorting.specs.Keys.{sortKeys}
-use Rattle.pairing.proofs.Seconds.{seconds-tagged, second-tallied}
+use Rattle.walks.proofs.Seconds.{seconds-tagged, second-tallied}
 use Rattle.pairing.proofs.second_walk.Statement.{statement}
 use Rattle.pairing.proofs.second_walk.Tie as tie
 

@@ -4,7 +4,7 @@ use mathlib.Core.Path.{sym, ap, _∙_}
 use mathlib.Core.Bool.{Bool, not, _||_}
 use native.Mathlib.Omega.{arith}
 use Rattle.rules.proofs.Tests.{or-neither}
-use Rattle.pairing.proofs.Both.{one-walk, two-walks, first-few, second-few}
+use Rattle.walks.proofs.Both.{one-walk, two-walks, first-few, second-few}
 use Rattle.pairing.proofs.tally.Statement.{statement}
 use Rattle.pairing.proofs.tally.Tie as tie
 

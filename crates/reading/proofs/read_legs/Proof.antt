@@ -13,7 +13,7 @@ use Rattle.rules.proofs.Tests.{within-both}
 use Rattle.symbol.proofs.Laws.{root-valued}
 use Rattle.sorting.specs.Keys.{withPlaces}
 use Rattle.keys.specs.Tags.{placeOf}
-use Rattle.reading.proofs.Tags.{symbol-length, tested, leg-tag}
+use Rattle.leg_tag.proofs.Tags.{symbol-length, tested, leg-tag}
 use Rattle.reading.proofs.Reading.{AreRead, next-read, no-legs, bad-symbol, all-read}
 use Rattle.reading.proofs.read_legs.Statement.{statement}
 use Rattle.reading.proofs.read_legs.Tie as tie

@@ -18,9 +18,9 @@ use Rattle.laws.proofs.Sorting.{all-perm, perm-sym, somePair-perm}
 use Rattle.laws.proofs.Sequence.{by-strike-is-perm, same-series-turn, other-root-turn}
 use Rattle.sorting.specs.Keys.{sortKeys, withPlaces, EachTwo}
 use Rattle.sorting.proofs.Laws.{each-two-with, each-two-fail}
 use Rattle.keys.specs.Tags.{keyOf, tagOf, legsIn, ValidTags, Arranged}
-use Rattle.keys.proofs.Back.{key-tells, tag-half}
-use Rattle.keys.proofs.Arranging.{arranged-tags, arranged-sizes, arranged-legs, arranged-tagged}
+use Rattle.arranging.proofs.Back.{key-tells, tag-half}
+use Rattle.arranging.proofs.Arranging.{arranged-tags, arranged-sizes, arranged-legs, arranged-tagged}
 
 -- ---- another sequence
 

@@ -15,8 +15,8 @@ use Rattle.rules.proofs.Tests.{and-both, or-false}
 use Rattle.laws.proofs.Sorting.{all-test-perm, sort-is-perm}
 use Rattle.tagged.specs.Tags.{none}
 use Rattle.loners.specs.Tallies.{allAlone}
-use Rattle.pairing.specs.Both.{tallied}
-use Rattle.pairing.proofs.Tallied.{onSide, legs-said}
+use Rattle.walks.specs.Both.{tallied}
+use Rattle.walks.proofs.Tallied.{onSide, legs-said}
 
 module _ (same : Series → Series → Bool) (b : Bool) where
   -- of two legs of one side nothing is matched

@@ -1,9 +1,9 @@
 use mathlib.Core.Path.{refl, sym, subst, _∙_}
 use native.Mathlib.Omega.{arith}
-use Rattle.reading.specs.Legs.{IsKnown}
-use Rattle.reading.proofs.Tags.{root-again}
-use Rattle.reading.proofs.is_root_after.Statement.{statement}
-use Rattle.reading.proofs.is_root_after.Tie as tie
+use Rattle.leg_tag.specs.Known.{IsKnown}
+use Rattle.leg_tag.proofs.Tags.{root-again}
+use Rattle.leg_tag.proofs.is_root_after.Statement.{statement}
+use Rattle.leg_tag.proofs.is_root_after.Tie as tie
 
 returns : tie.Need-returns
 returns c =

@@ -18,10 +18,10 @@ use Rattle.rules.specs.Valid.{InRange}
 use Rattle.laws.proofs.Sorting.{all-perm, all-map, perm-sym, sort-is-perm, lex-below, lex-level}
 use Rattle.sorting.specs.Keys.{sortKeys, withPlaces, EachTwo}
 use Rattle.sorting.proofs.Laws.{sort-same, sort-places, places-say, each-two-with}
 use Rattle.keys.specs.Tags.{packed, keyOf, tagOf, legAt, legsFrom, legsIn, sequenced, Tagged, Arranged}
 use Rattle.keys.proofs.Keys.{small-digit}
-use Rattle.keys.proofs.Zip.{zip-take}
-use Rattle.keys.proofs.Back.{tag-half, tag-small, legs-back}
+use Rattle.arranging.proofs.Zip.{zip-take}
+use Rattle.arranging.proofs.Back.{tag-half, tag-small, legs-back}
 
 -- ---- a packed number is in the order of its three numbers
 

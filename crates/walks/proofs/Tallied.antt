@@ -15,7 +15,7 @@ use Rattle.rules.proofs.Tests.{or-false}
 use Rattle.tagged.specs.declared.PairTally.{PairTally}
 use Rattle.tagged.specs.Tags.{oneMore, none, noted}
 use Rattle.loners.specs.Tallies.{aloneWith, allAlone, joinedTallies, tallyClass}
-use Rattle.pairing.specs.Both.{tallied}
+use Rattle.walks.specs.Both.{tallied}
 
 -- a pair of this side, and a leg of this side or with nothing open: true is the debit side
 abbrev pairOn : Bool → Pair → Bool

@@ -16,13 +16,13 @@ use Rattle.sorting.specs.Keys.{sortKeys, withPlaces, EachTwo}
 use Rattle.sorting.proofs.Laws.{each-two-map, each-two-with}
 use Rattle.keys.specs.Tags.{packed, keyOf, seriesAt, tagOf, legAt, legsFrom, legsIn, secondTag, Tagged, Arranged}
 use Rattle.keys.proofs.Keys.{side-says}
-use Rattle.keys.proofs.Zip.{zip-length, zip-take}
-use Rattle.keys.proofs.Back.{key-tells, tag-half}
-use Rattle.keys.proofs.Arranging.{arranged-legs, arranged-tagged}
+use Rattle.arranging.proofs.Zip.{zip-length, zip-take}
+use Rattle.arranging.proofs.Back.{key-tells, tag-half}
+use Rattle.arranging.proofs.Arranging.{arranged-legs, arranged-tagged}
 use Rattle.tagged.specs.declared.PairTally.{PairTally}
 use Rattle.tagged.specs.Tags.{Walks}
 use Rattle.loners.specs.Tallies.{allAlone, Loners}
-use Rattle.pairing.specs.Both.{tallied}
+use Rattle.walks.specs.Both.{tallied}
 
 -- a key says a series in range, and the series says the key
 key-says : (k : ℕ) → k < 20000000000000000 → InRange (seriesAt false k) × (keyOf false (seriesAt false k) ≡ k)

@@ -24,7 +24,7 @@ use Rattle.rules.proofs.Numerals.{numeral-value, value-below}
 use Rattle.rules.proofs.Symbols.{limits, laid, parts-in-layout, read-outside}
 use Rattle.symbol.proofs.Laws.{parts-small, read-good}
 use Rattle.keys.specs.Tags.{keyOf, tagOf}
-use Rattle.reading.specs.Legs.{IsKnown, tagAt}
+use Rattle.leg_tag.specs.Known.{IsKnown, tagAt}
 
 -- what owning an array of raw legs tells of it: each symbol has 21 bytes
 pub symbol-length : (rs : List RawLeg) (us : List Val) (i : ℕ) → i < length rs → shadow (each (the-field .row .Denot) (the-field .row .own) (map (the-field .into) rs) us) → length (getD rs i noRawLeg .symbol) ≡ 21

@@ -14,9 +14,9 @@ use Rattle.tagged.specs.declared.PairTally.{PairTally}
 use Rattle.tagged.specs.Tags.{none, noted, Walks}
 use Rattle.tagged.proofs.Walking.{noted-append}
 use Rattle.loners.specs.Tallies.{allAlone, joinedTallies, tallyClass, Loners}
-use Rattle.pairing.specs.Both.{tallied, BothWalks}
-use Rattle.pairing.proofs.Tallied.{pairs-said, tallied-said, joined-walk, class-tallied}
-use Rattle.pairing.proofs.Skip.{skipped}
+use Rattle.walks.specs.Both.{tallied, BothWalks}
+use Rattle.walks.proofs.Tallied.{pairs-said, tallied-said, joined-walk, class-tallied}
+use Rattle.walks.proofs.Skip.{skipped}
 
 module _ (root : ℕ) {n : ℕ} {tags left after : List ℕ} {a : PairTally} (fits : n ≤ 16) (wa : Walks tags left after n false a) where
   abbrev ls : List Leg

@@ -7,9 +7,9 @@ use borrow.Author.Tests.{not-true, not-false, eq-eqb, ne-eqb}
 use Rattle.rules.specs.Numerals.{value}
 use Rattle.rules.specs.Symbol.{isSymbol}
 use Rattle.symbol.proofs.Laws.{root-bytes, root-tested}
-use Rattle.reading.proofs.Tags.{read-small, read-range, read-tag}
-use Rattle.reading.proofs.tag_at.Statement.{statement}
-use Rattle.reading.proofs.tag_at.Tie as tie
+use Rattle.leg_tag.proofs.Tags.{read-small, read-range, read-tag}
+use Rattle.leg_tag.proofs.tag_at.Statement.{statement}
+use Rattle.leg_tag.proofs.tag_at.Tie as tie
 
 is-root-after-requires : tie.Need-is-root-after-requires
 is-root-after-requires c κs =

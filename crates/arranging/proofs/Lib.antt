@@ -1,0 +1,5 @@
+pub mod Zip
+pub mod Places
+pub mod Back
+pub mod Arranging
+pub mod Valid
