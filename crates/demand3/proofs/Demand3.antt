@@ -48,6 +48,10 @@ counted (r ∷ rs) h =
     good true e = refl
     good false e = absurd (true≢false e)
 
+-- a refusal's number that refuses nothing is 0
+pub not-refused : (k : ℕ) → isAccepted k || isRefused k ≡ true → isRefused k ≡ false → k ≡ 0
+not-refused k e g = ⊎-elim (λ a. eqb-true k 0 a) (λ r. absurd (true≢false (sym r ∙ g))) (or-either _ _ e)
+
 module _ (st : Settings) (m : Market) (t : Terms) (n : ℕ) (rs : List RawLeg) where
   refusal-refuses : isAccepted (refusal st m t n rs) || isRefused (refusal st m t n rs) ≡ true
   unfolding refusal all
@@ -60,7 +64,7 @@ module _ (st : Settings) (m : Market) (t : Terms) (n : ℕ) (rs : List RawLeg) w
     where
       go : (k : ℕ) → isAccepted k || isRefused k ≡ true → isRefused (outcome k (judged st m t (byStrike (legsOf rs))) .number) ≡ false → k ≡ 0
       go zero e g = refl
-      go (suc k) e g = ⊎-elim (λ a. eqb-true (suc k) 0 a) (λ r. absurd (true≢false (sym r ∙ g))) (or-either _ _ e)
+      go (suc k) e g = not-refused (suc k) e g
 
   sized : refusal st m t n rs ≡ 0 → Sized (legsOf rs)
   unfolding refusal all
@@ -147,7 +151,7 @@ module _ (st : Settings) (m : Market) (t : Terms) (n : ℕ) (price : ℤ) (price
     unfolding judged
     sound e = rw (is-judged h) (not-rejected st m t ls big v fair (priced ∙ e))
 
-  both-arrivals : Arrivals st m price ls (checkLegs st m t n rs) (checkLegs st m t n qs)
+  pub both-arrivals : Arrivals st m price ls (checkLegs st m t n rs) (checkLegs st m t n qs)
   both-arrivals =
       record {
         same = check-perm st m t n p;
@@ -157,7 +161,7 @@ module _ (st : Settings) (m : Market) (t : Terms) (n : ℕ) (price : ℤ) (price
       }
 
 -- the host's integer is what its price stands for
-signed-back : (z : ℤ) → signedPrice (priceOf z) ≡ z
+pub signed-back : (z : ℤ) → signedPrice (priceOf z) ≡ z
 unfolding priceOf
 signed-back (pos n) = refl
 signed-back (negsuc n) = refl

@@ -5,7 +5,7 @@ use mathlib.Core.Bool.{Bool, true, false, cond, not}
 use Prim.Native.Nat.{ℕ}
 use native.Mathlib.Omega.{arith}
 use lib.Dec.{eqb}
-use borrow.Author.Tests.{eqb-true, eqb-false, eq-eqb, ne-eqb}
+use borrow.Author.Tests.{eqb-true, eq-eqb}
 use Rattle.rules.specs.declared.RawLeg.{RawLeg}
 use Rattle.rules.specs.declared.Terms.{Terms}
 use Rattle.rules.specs.declared.Leg.{Leg}
@@ -17,6 +17,7 @@ use Rattle.rules.specs.Order.{legOf, legsOf}
 use Rattle.rules.specs.Pairing.{digit, strikeKey, wholeLeg, byStrike}
 use Rattle.rules.specs.Checks.{isPositive, isNegative}
 use Rattle.rules.specs.Numbers.{isBadCount, isSameSeries, isOtherRoot, isBadPrice, refusal, outcome, judged, checkLegs}
+use Rattle.rules.proofs.Tests.{same-test}
 use Rattle.laws.proofs.Simple.{simple-same}
 use Rattle.laws.proofs.Sorting.{map-perm, length-perm, any-perm, all-test-perm, somePair-perm, sort-perm, sort-is-perm}
 
@@ -52,12 +53,8 @@ pub legs-perm : {xs ys : List RawLeg} → Perm xs ys → Perm (legsOf xs) (legsO
 unfolding legsOf
 legs-perm p = map-perm legOf p
 
-eqb-turn : (a b : ℕ) → eqb a b ≡ eqb b a
-eqb-turn a b = go (eqb a b) refl
-  where
-    go : (t : Bool) → eqb a b ≡ t → t ≡ eqb b a
-    go true e = sym (eq-eqb b a (sym (eqb-true a b e)))
-    go false e = sym (ne-eqb b a (λ f. eqb-false a b e (sym f)))
+pub eqb-turn : (a b : ℕ) → eqb a b ≡ eqb b a
+eqb-turn a b = same-test _ _ (λ e. eq-eqb b a (sym (eqb-true a b e))) (λ e. eq-eqb a b (sym (eqb-true b a e)))
 
 same-turn : (a b : Bool) → sameBool a b ≡ sameBool b a
 same-turn true true = refl

@@ -25,7 +25,7 @@ fn word(count: &[u8]) -> u64
 }
 
 // A copy of the symbol's bytes, for the leg to keep.
-fn bytes_of(symbol: &[u8]) -> [u8; 21]
+pub fn bytes_of(symbol: &[u8]) -> [u8; 21]
     requires { ⌜ length (now symbol) ≡ 21 ⌝ }
     ensures { λ r. ⌜ r ≡ now (symbol .entry) ⌝ }
 {

@@ -1,18 +1,14 @@
 -- What is found of the first `n` elements of an array, as a loop finds it place by place. `r` is the answer before `i`, `r′` the answer with `i`; a loop that returns where `i` decides goes on with the `r` that it began with.
-use mathlib.Core.Path.{_≡_, refl}
+use mathlib.Core.Path.{_≡_}
 use mathlib.Core.List.{List, [], _∷_}
-use mathlib.Core.Bool.{Bool, true, false, _&&_, _||_}
+use mathlib.Core.Bool.{Bool, _&&_, _||_}
 use Prim.Native.Nat.{ℕ, _+_, _<_, _≤_}
 use native.Mathlib.Omega.{arith}
 use native.Mathlib.Numerals.{add-one}
 use lib.ListN.{length, take, drop, getD, drop-of-length-le}
 use lib.Seq.{drop-cons, getD-take, length-take-le}
 use Rattle.rules.specs.Lists.{any, all, somePair}
-use Rattle.rules.proofs.Tests.{and-true, or-false, or-assoc}
-
-and-assoc : (a b c : Bool) → (a && b) && c ≡ a && (b && c)
-and-assoc true b c = refl
-and-assoc false b c = refl
+use Rattle.rules.proofs.Tests.{and-true, and-assoc, or-false, or-assoc}
 
 module _ {A : Type 0} (d : A) (xs : List A) (n : ℕ) (fits : n ≤ length xs) where
   pub step : (i : ℕ) → i < n → drop i (take n xs) ≡ getD xs i d ∷ drop (i + 1) (take n xs)

@@ -6,6 +6,7 @@ use Prim.Native.Nat.{ℕ, zero, suc, _/_, _≤_, _<_}
 use native.Mathlib.Omega.{arith}
 use lib.ListN.{length, take, length-map}
 use lib.Seq.{length-take-le}
+use Rattle.rules.specs.declared.RawLeg.{RawLeg}
 use Rattle.rules.specs.declared.Leg.{Leg}
 use Rattle.rules.specs.declared.Order.{Order}
 use Rattle.rules.specs.declared.Terms.{Terms}
@@ -26,11 +27,11 @@ use Rattle.reading.specs.Legs.{readRefusals, GoodRead, IsRead}
 use Rattle.validity.specs.Orders.{Refuses}
 use Rattle.validity.proofs.Laws.{above, wrong-length, not-refused}
 
-outcome-none : (n : ℕ) (a : OrderAnswer) → n ≡ 0 → outcome n a ≡ a
+pub outcome-none : (n : ℕ) (a : OrderAnswer) → n ≡ 0 → outcome n a ≡ a
 unfolding outcome
 outcome-none n a h = rw h
 
-outcome-some : (n : ℕ) (a : OrderAnswer) → (n ≡ 0 → ⊥) → outcome n a ≡ refused n
+pub outcome-some : (n : ℕ) (a : OrderAnswer) → (n ≡ 0 → ⊥) → outcome n a ≡ refused n
 unfolding outcome
 outcome-some zero a h = absurd (h refl)
 outcome-some (suc n) a h = refl
@@ -44,6 +45,10 @@ module _ (st : Settings) (m : Market) where
   unfolding checkOrder checkLegs
   order-valid o n e h = outcome-none _ _ (sym e ∙ h)
 
+  pub too-many-legs : (t : Terms) (n : ℕ) (rs : List RawLeg) → 16 < n → checkLegs st m t n rs ≡ refused 3
+  unfolding checkLegs outcome
+  too-many-legs t n rs k = ap (λ (r : ℕ). outcome r (judged st m t (byStrike (legsOf rs)))) (wrong-length st m t n rs (above n k))
+
   module _ (t : Terms) (symbols counts : List ℕ) where
     pub not-whole : areWhole symbols counts ≡ false → checkSlices st m t symbols counts ≡ refused 1
     unfolding checkSlices
@@ -54,10 +59,7 @@ module _ (st : Settings) (m : Market) where
     whole h = rw h
 
     pub too-many : areWhole symbols counts ≡ true → 16 < length counts / 8 → checkSlices st m t symbols counts ≡ refused 3
-    unfolding checkLegs outcome
-    too-many h k =
-        let n = length counts / 8 in
-        whole h ∙ ap (λ (r : ℕ). outcome r (judged st m t (byStrike (legsOf (rawLegs n symbols counts))))) (wrong-length st m t n (rawLegs n symbols counts) (above n k))
+    too-many h k = let n = length counts / 8 in whole h ∙ too-many-legs t n (rawLegs n symbols counts) k
 
     pub as-record : areWhole symbols counts ≡ true → (o : Order) → Recorded (length counts / 8) symbols counts t o → checkSlices st m t symbols counts ≡ checkOrder st m o
     unfolding checkOrder

@@ -24,8 +24,9 @@ use Rattle.rules.specs.Kinds.{isRefused, isRejected}
 use Rattle.rules.specs.Numbers.{refusals, refusal, rejections, rejection, judged, refused, outcome, checkLegs, checkOrder, areWhole, checkSlices}
 use Rattle.rules.specs.Symbol.{partsOf}
 use Rattle.rules.specs.Quote.{quoteRefusals, quoteRefusal, quoteRejections, quoteRejection, answeredQuote, quoteOutcome, checkQuote}
-use Rattle.rules.specs.Tally.{isBadTally, tallied, Call, orderAnswer, checkTallied}
-use Rattle.rules.specs.Demand1.{readerNumbers, Reader, writerNumbers, Writer, orderNumbers, OrderAnswers, OrderCheck, quoteNumbers, QuoteAnswers, QuoteCheck, TalliedAnswers, TalliedCheck, Numbered}
+use Rattle.rules.specs.Fix.{messageRefusals, messageRefusal, SaidOrder, orderIn, bodyOf, checkSaid, checkFix}
+use Rattle.rules.specs.Tally.{isBadTally, tallied, Call, order, message, ownAnswer, checkTallied}
+use Rattle.rules.specs.Demand1.{readerNumbers, Reader, writerNumbers, Writer, legNumbers, orderNumbers, OrderAnswers, OrderCheck, messageNumbers, MessageCheck, quoteNumbers, QuoteAnswers, QuoteCheck, TalliedAnswers, callNumbers, TalliedCheck, Numbered}
 use Rattle.rules.proofs.Tests.{and-both, not-eq, same-eq}
 use Rattle.rules.proofs.Symbols.{read-cases, write-cases}
 use Rattle.rules.proofs.Numbering.{first-passes}
@@ -65,43 +66,74 @@ writer p buffer =
     (λ r. ⊎-elim (λ b. rw b (record { number = member 2 writerNumbers refl; refusal = λ h. (refl, refl) })) (λ d. rw d (record { number = member 4 writerNumbers refl; refusal = λ h. (refl, refl) })) r)
     (write-cases p buffer)
 
-refused-answers : (n : ℕ) → isOf orderNumbers n ≡ true → OrderAnswers (refused n)
-refused-answers n h = record { number = member n orderNumbers h; refusal = λ e. (refl, refl, refl) }
+refused-answers : (ns : List ℕ) (n : ℕ) → isOf ns n ≡ true → OrderAnswers ns (refused n)
+refused-answers ns n h = record { number = member n ns h; refusal = λ e. (refl, refl, refl) }
+
+-- a check that gives more numbers
+more : (ns ms : List ℕ) (r : OrderAnswer) → all (isOf ms) ns ≡ true → OrderAnswers ns r → OrderAnswers ms r
+more ns ms r h a = record { number = member (r .number) ms (passes (isOf ms) (r .number) ns h (a .number)); refusal = a .refusal }
 
 module _ (st : Settings) (m : Market) (t : Terms) where
-  refusal-number : (n : ℕ) (rs : List RawLeg) → isOf orderNumbers (refusal st m t n rs) ≡ true
+  abbrev isListed : ℕ → Bool
+  isListed = isOf (0 ∷ legNumbers)
+
+  refusal-number : (n : ℕ) (rs : List RawLeg) → isListed (refusal st m t n rs) ≡ true
   unfolding refusal any all
-  refusal-number n rs = first-passes (isOf orderNumbers) (refusals st m t n rs) refl refl
+  refusal-number n rs = first-passes isListed (refusals st m t n rs) refl refl
 
-  rejection-number : (us : List Leg) (class : ℕ) → isOf orderNumbers (rejection st m t us class) && not (isRefused (rejection st m t us class)) ≡ true
+  rejection-number : (us : List Leg) (class : ℕ) → isListed (rejection st m t us class) && not (isRefused (rejection st m t us class)) ≡ true
   unfolding rejection any all
-  rejection-number us class = first-passes (λ n. isOf orderNumbers n && not (isRefused n)) (rejections st m t us class) refl refl
+  rejection-number us class = first-passes (λ n. isListed n && not (isRefused n)) (rejections st m t us class) refl refl
 
-  legs-answers : (n : ℕ) (rs : List RawLeg) → OrderAnswers (checkLegs st m t n rs)
+  legs-answers : (n : ℕ) (rs : List RawLeg) → OrderAnswers (0 ∷ legNumbers) (checkLegs st m t n rs)
   unfolding checkLegs outcome judged
   legs-answers n rs = go (refusal st m t n rs) (refusal-number n rs)
     where
       ls : List Leg
       ls = byStrike (legsOf rs)
 
-      go : (k : ℕ) → isOf orderNumbers k ≡ true → OrderAnswers (outcome k (judged st m t ls))
+      go : (k : ℕ) → isListed k ≡ true → OrderAnswers (0 ∷ legNumbers) (outcome k (judged st m t ls))
       go zero h =
           let r = and-both _ _ (rejection-number (units ls) (classOf (units ls) (bothWalks (isYes (st .european)) ls))) in
-          record { number = member _ orderNumbers (r .0); refusal = λ e. absurd (true≢false (sym e ∙ not-eq _ (r .1))) }
-      go (suc k) h = refused-answers (suc k) h
+          record { number = member _ (0 ∷ legNumbers) (r .0); refusal = λ e. absurd (true≢false (sym e ∙ not-eq _ (r .1))) }
+      go (suc k) h = refused-answers (0 ∷ legNumbers) (suc k) h
 
-slices-answers : (st : Settings) (m : Market) (t : Terms) (symbols counts : List ℕ) (b : Bool) → areWhole symbols counts ≡ b → OrderAnswers (checkSlices st m t symbols counts)
-unfolding checkSlices any
-slices-answers st m t symbols counts true e = rw e (legs-answers st m t (length counts / 8) (rawLegs (length counts / 8) symbols counts))
-slices-answers st m t symbols counts false e = rw e (refused-answers 1 refl)
+  order-answers : (n : ℕ) (rs : List RawLeg) → OrderAnswers orderNumbers (checkLegs st m t n rs)
+  unfolding all any
+  order-answers n rs = more (0 ∷ legNumbers) orderNumbers (checkLegs st m t n rs) refl (legs-answers n rs)
+
+  slices-answers : (symbols counts : List ℕ) (b : Bool) → areWhole symbols counts ≡ b → OrderAnswers orderNumbers (checkSlices st m t symbols counts)
+  unfolding checkSlices any
+  slices-answers symbols counts true e = rw e (order-answers (length counts / 8) (rawLegs (length counts / 8) symbols counts))
+  slices-answers symbols counts false e = rw e (refused-answers orderNumbers 1 refl)
 
 pub order-check : OrderCheck
 unfolding checkOrder
 order-check =
     record {
       slices = λ st m t symbols counts. slices-answers st m t symbols counts (areWhole symbols counts) refl;
-      orderRecord = λ st m o. legs-answers st m (o .terms) (o .len) (recordLegs o);
+      orderRecord = λ st m o. order-answers st m (o .terms) (o .len) (recordLegs o);
     }
+
+-- ---- messages
+
+message-number : (m : List ℕ) → isOf messageNumbers (messageRefusal m) ≡ true
+unfolding messageRefusal any all
+message-number m = first-passes (isOf messageNumbers) (messageRefusals m) refl refl
+
+pub message-check : MessageCheck
+unfolding checkFix outcome all any
+message-check a m = go (messageRefusal m) (message-number m)
+  where
+    o : SaidOrder
+    o = orderIn (bodyOf m)
+
+    legs : OrderAnswers (0 ∷ legNumbers) (checkSaid a o)
+    legs = legs-answers (a .settings) (a .market) (termsOf (o .price) (o .kind) (a .stop) (a .manual) (a .opening)) (length (o .legs)) (o .legs)
+
+    go : (k : ℕ) → isOf messageNumbers k ≡ true → OrderAnswers messageNumbers (outcome k (checkSaid a o))
+    go zero h = more (0 ∷ legNumbers) messageNumbers (checkSaid a o) refl legs
+    go (suc k) h = refused-answers messageNumbers (suc k) h
 
 -- ---- quotes
 
@@ -148,21 +180,27 @@ quote-check st m symbol bid offer resting = quote-answers st m symbol bid offer 
 
 -- ---- the tally
 
-pub order-answers : (c : Call) → OrderAnswers (orderAnswer c)
-order-answers c =
-    let a = c .inputs in
-    order-check .slices (a .settings) (a .market) (termsOf (a .price) (a .kind) (a .stop) (a .manual) (a .opening)) (c .symbols) (c .counts)
+pub call-answers : (c : Call) → OrderAnswers (callNumbers c) (ownAnswer c)
+call-answers (order a symbols counts) =
+    order-check .slices (a .settings) (a .market) (termsOf (a .price) (a .kind) (a .stop) (a .manual) (a .opening)) symbols counts
+call-answers (message a m) = message-check a m
 
-tallied-answers : (t : Tally) (a : OrderAnswer) → OrderAnswers a → (b : Bool) → isBadTally t ≡ b → TalliedAnswers t (tallied t a)
-unfolding tallied all
-tallied-answers t a h true e = rw e (record { number = List·Memᴰ·head refl; refusal = λ f. (refl, refl, refl); unchanged = λ f. refl })
-tallied-answers t a h false e =
-    rw e (record { number = List·Memᴰ·tail (h .number); refusal = h .refusal; unchanged = λ f. absurd (true≢false (sym (passes (λ n. not (eqb n 12)) (a .number) orderNumbers refl (h .number)) ∙ ap (λ (n : ℕ). not (eqb n 12)) f)) })
+-- no check gives 12 by itself
+pub no-twelve : (c : Call) → all (λ n. not (eqb n 12)) (callNumbers c) ≡ true
+unfolding all
+no-twelve (order a symbols counts) = refl
+no-twelve (message a m) = refl
+
+tallied-answers : (ns : List ℕ) → all (λ n. not (eqb n 12)) ns ≡ true → (t : Tally) (a : OrderAnswer) → OrderAnswers ns a → (b : Bool) → isBadTally t ≡ b → TalliedAnswers ns t (tallied t a)
+unfolding tallied
+tallied-answers ns none t a h true e = rw e (record { number = List·Memᴰ·head refl; refusal = λ f. (refl, refl, refl); unchanged = λ f. refl })
+tallied-answers ns none t a h false e =
+    rw e (record { number = List·Memᴰ·tail (h .number); refusal = h .refusal; unchanged = λ f. absurd (true≢false (sym (passes (λ n. not (eqb n 12)) (a .number) ns none (h .number)) ∙ ap (λ (n : ℕ). not (eqb n 12)) f)) })
 
 pub tallied-check : TalliedCheck
 unfolding checkTallied
-tallied-check t c = tallied-answers t (orderAnswer c) (order-answers c) (isBadTally t) refl
+tallied-check t c = tallied-answers (callNumbers c) (no-twelve c) t (ownAnswer c) (call-answers c) (isBadTally t) refl
 
 pub numbered : Numbered
 unfolding all any
-numbered = record { listed = refl; given = refl; kinds = refl; orders = refl; quotes = refl }
+numbered = record { listed = refl; given = refl; kinds = refl; orders = refl; messages = refl; quotes = refl }

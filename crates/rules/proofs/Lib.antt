@@ -7,6 +7,7 @@ pub mod Numbering
 pub mod Handed
 pub mod Examples
 pub mod Edges
+pub mod Messages
 pub mod Demand1
 pub mod Demand2
 pub mod Tallying

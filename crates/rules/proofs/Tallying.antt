@@ -7,18 +7,16 @@ use native.Mathlib.Omega.{arith}
 use borrow.Author.Tests.{eqb-true}
 use Rattle.rules.specs.declared.OrderAnswer.{OrderAnswer}
 use Rattle.rules.specs.declared.Tally.{Tally}
-use Rattle.rules.specs.Lists.{all}
 use Rattle.rules.specs.Kinds.{isAccepted, isRejected, isRefused}
 use Rattle.rules.specs.Numbers.{refused}
-use Rattle.rules.specs.Demand1.{orderNumbers}
-use Rattle.rules.specs.Tally.{isBadTally, oneMore, counted, tallied, Call, orderAnswer, checkTallied, numbersOf, tallyAfter, fresh, howMany, isTwelve, Tallies, TallyTheorem}
-use Rattle.rules.proofs.Demand1.{passes, order-answers}
+use Rattle.rules.specs.Demand1.{callNumbers}
+use Rattle.rules.specs.Tally.{isBadTally, oneMore, counted, tallied, Call, ownAnswer, checkTallied, numbersOf, tallyAfter, fresh, howMany, isTwelve, Tallies, TallyTheorem}
+use Rattle.rules.proofs.Demand1.{passes, call-answers, no-twelve}
 
--- ---- the order check never gives 12
+-- ---- no check gives 12 by itself
 
-not-twelve : (c : Call) → not (isTwelve (orderAnswer c .number)) ≡ true
-unfolding all
-not-twelve c = passes (λ n. not (isTwelve n)) _ orderNumbers refl (order-answers c .number)
+not-twelve : (c : Call) → not (isTwelve (ownAnswer c .number)) ≡ true
+not-twelve c = passes (λ n. not (isTwelve n)) _ (callNumbers c) (no-twelve c) (call-answers c .number)
 
 -- ---- one call
 
@@ -26,7 +24,7 @@ bad-call : (t : Tally) (c : Call) → isBadTally t ≡ true → (checkTallied t 
 unfolding checkTallied tallied
 bad-call t c h = rw h (refl, refl)
 
-counted-call : (t : Tally) (c : Call) → isBadTally t ≡ false → (checkTallied t c .answer ≡ orderAnswer c) × (checkTallied t c .tally ≡ counted t (orderAnswer c .number))
+counted-call : (t : Tally) (c : Call) → isBadTally t ≡ false → (checkTallied t c .answer ≡ ownAnswer c) × (checkTallied t c .tally ≡ counted t (ownAnswer c .number))
 unfolding checkTallied tallied
 counted-call t c h = rw h (refl, refl)
 
@@ -53,7 +51,7 @@ module _ (get : Tally → ℕ) (f : ℕ → Bool) (none : f 12 ≡ false) (step 
       go false e ih =
           let k = counted-call t c e in
           let rest = howMany f (numbersOf (checkTallied t c .tally) cs) in
-          let n = orderAnswer c .number in
+          let n = ownAnswer c .number in
           ih
           ∙ ap (λ (x : ℕ). x + rest) (ap get (k .1) ∙ step t n (not-twelve c))
           ∙ moved (f n) (get t) rest
@@ -93,10 +91,10 @@ tallies cs =
     from-zero : (x : ℕ) → 0 + x ≡ x
     from-zero x = omega arith
 
-same-number : (t : Tally) (c : Call) → (checkTallied t c .answer .number ≡ 12 → ⊥) → checkTallied t c .answer ≡ orderAnswer c
+same-number : (t : Tally) (c : Call) → (checkTallied t c .answer .number ≡ 12 → ⊥) → checkTallied t c .answer ≡ ownAnswer c
 same-number t c h = go (isBadTally t) refl
   where
-    go : (b : Bool) → isBadTally t ≡ b → checkTallied t c .answer ≡ orderAnswer c
+    go : (b : Bool) → isBadTally t ≡ b → checkTallied t c .answer ≡ ownAnswer c
     go true e = absurd (h (ap (λ (a : OrderAnswer). a .number) (bad-call t c e .0)))
     go false e = counted-call t c e .0
 
@@ -122,7 +120,7 @@ keeps-sum t c h = go (isBadTally t) refl
   where
     go : (b : Bool) → isBadTally t ≡ b → let u = checkTallied t c .tally in u .seen ≡ u .refused + u .accepted + u .rejected
     go true e = rw (bad-call t c e .1) h
-    go false e = rw (counted-call t c e .1) (sum-of t (orderAnswer c .number) h)
+    go false e = rw (counted-call t c e .1) (sum-of t (ownAnswer c .number) h)
 
 pub tally-theorem : TallyTheorem
 tally-theorem = record { lists = tallies; same = same-number; sum = keeps-sum }

@@ -31,6 +31,10 @@ pub and-true : (a : Bool) → a && true ≡ a
 and-true true = refl
 and-true false = refl
 
+pub and-assoc : (a b c : Bool) → (a && b) && c ≡ a && (b && c)
+and-assoc true b c = refl
+and-assoc false b c = refl
+
 pub or-false : (a : Bool) → a || false ≡ a
 or-false true = refl
 or-false false = refl
@@ -50,6 +54,12 @@ or-neither false b h = (refl, h)
 pub not-eq : (b : Bool) → not b ≡ true → b ≡ false
 not-eq true h = sym h
 not-eq false h = refl
+
+-- tests that pass alike are the same
+pub same-test : (a b : Bool) → (a ≡ true → b ≡ true) → (b ≡ true → a ≡ true) → a ≡ b
+same-test true b h k = sym (h refl)
+same-test false true h k = k refl
+same-test false false h k = refl
 
 -- `==` of two flags in code
 pub beq-same : (a b : Bool) → Bool·beq a b ≡ sameBool a b

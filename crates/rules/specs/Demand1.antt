@@ -23,7 +23,8 @@ use Rattle.rules.specs.Lists.{all, any}
 use Rattle.rules.specs.Kinds.{numbers, isRefused, isRejected, kindOf}
 use Rattle.rules.specs.Numbers.{named, refusals, rejections, checkOrder, checkSlices}
 use Rattle.rules.specs.Quote.{quoteRefusals, quoteRejections, checkQuote}
-use Rattle.rules.specs.Tally.{Call, checkTallied}
+use Rattle.rules.specs.Fix.{messageRefusals, MessageInputs, checkFix}
+use Rattle.rules.specs.Tally.{Call, order, message, checkTallied}
 
 -- the symbol reader
 abbrev pub readerNumbers : List ℕ
@@ -60,17 +61,29 @@ anyTerms = termsOf (pos 0) 0 0 0 0
 abbrev anyPrice : Mills
 anyPrice = record { 0 = 0 }
 
--- the order check: 0, 1 of slices, and the numbers of its refusals and rejections
-abbrev pub orderNumbers : List ℕ
-orderNumbers = 0 ∷ 1 ∷ (named (refusals anySettings anyMarket anyTerms 0 []) ++ named (rejections anySettings anyMarket anyTerms [] 0))
+-- the numbers of the refusals and rejections of legs
+abbrev pub legNumbers : List ℕ
+legNumbers = named (refusals anySettings anyMarket anyTerms 0 []) ++ named (rejections anySettings anyMarket anyTerms [] 0)
 
-pub record OrderAnswers (r : OrderAnswer) : Type 0 where
-  pub number : List·Memᴰ (r .number) orderNumbers
+-- the order check: 0, 1 of slices, and the numbers of legs
+abbrev pub orderNumbers : List ℕ
+orderNumbers = 0 ∷ 1 ∷ legNumbers
+
+-- an answer with one of the numbers `ns`
+pub record OrderAnswers (ns : List ℕ) (r : OrderAnswer) : Type 0 where
+  pub number : List·Memᴰ (r .number) ns
   pub refusal : isRefused (r .number) ≡ true → (r .class ≡ 0) × (r .shape ≡ 0) × (r .pairings ≡ 0)
 
 pub record OrderCheck : Type 0 where
-  pub slices : (st : Settings) (m : Market) (t : Terms) (symbols counts : List ℕ) → OrderAnswers (checkSlices st m t symbols counts)
-  pub orderRecord : (st : Settings) (m : Market) (o : Order) → OrderAnswers (checkOrder st m o)
+  pub slices : (st : Settings) (m : Market) (t : Terms) (symbols counts : List ℕ) → OrderAnswers orderNumbers (checkSlices st m t symbols counts)
+  pub orderRecord : (st : Settings) (m : Market) (o : Order) → OrderAnswers orderNumbers (checkOrder st m o)
+
+-- the check on messages (document 02, S-1): 0, its own refusals, and the numbers of legs
+abbrev pub messageNumbers : List ℕ
+messageNumbers = 0 ∷ (named (messageRefusals []) ++ legNumbers)
+
+abbrev pub MessageCheck : Type 0
+MessageCheck = (a : MessageInputs) (m : List ℕ) → OrderAnswers messageNumbers (checkFix a m)
 
 -- the quote check
 abbrev pub quoteNumbers : List ℕ
@@ -85,23 +98,29 @@ pub record QuoteAnswers (resting : ℕ) (r : QuoteAnswer) : Type 0 where
 abbrev pub QuoteCheck : Type 0
 QuoteCheck = (st : Settings) (m : Market) (symbol : List ℕ) (bid offer : Mills) (resting : ℕ) → QuoteAnswers resting (checkQuote st m symbol bid offer resting)
 
--- the tallied check, of the tally that comes: a refusal's other fields but the tally are zero, and on 12 the tally is as it came
-pub record TalliedAnswers (t : Tally) (r : TalliedAnswer) : Type 0 where
-  pub number : List·Memᴰ (r .answer .number) (12 ∷ orderNumbers)
+-- a tallied check, of the tally that comes: a refusal's other fields but the tally are zero, and on 12 the tally is as it came
+pub record TalliedAnswers (ns : List ℕ) (t : Tally) (r : TalliedAnswer) : Type 0 where
+  pub number : List·Memᴰ (r .answer .number) (12 ∷ ns)
   pub refusal : isRefused (r .answer .number) ≡ true → (r .answer .class ≡ 0) × (r .answer .shape ≡ 0) × (r .answer .pairings ≡ 0)
   pub unchanged : r .answer .number ≡ 12 → r .tally ≡ t
 
-abbrev pub TalliedCheck : Type 0
-TalliedCheck = (t : Tally) (c : Call) → TalliedAnswers t (checkTallied t c)
+-- what the call's own check can give
+abbrev pub callNumbers : Call → List ℕ
+callNumbers (order a symbols counts) = orderNumbers
+callNumbers (message a m) = messageNumbers
 
--- "one of document 01's numbers": `Kinds.numbers` lists those that the entries can give, and no other, each with its kind
+abbrev pub TalliedCheck : Type 0
+TalliedCheck = (t : Tally) (c : Call) → TalliedAnswers (callNumbers c) t (checkTallied t c)
+
+-- "one of document 01's numbers", or of those that "join" them (document 02): `Kinds.numbers` lists those that the entries can give, and no other, each with its kind
 abbrev pub entryNumbers : List ℕ
-entryNumbers = readerNumbers ++ (writerNumbers ++ (orderNumbers ++ (12 ∷ quoteNumbers)))
+entryNumbers = readerNumbers ++ (writerNumbers ++ (orderNumbers ++ (messageNumbers ++ (12 ∷ quoteNumbers))))
 
 pub record Numbered : Type 0 where
   pub listed : all (λ n. any (λ e. eqb n (e .0)) numbers) entryNumbers ≡ true
   pub given : all (λ e. any (eqb (e .0)) entryNumbers) numbers ≡ true
   pub kinds : map (λ e. kindOf (e .0)) numbers ≡ map (λ e. e .1) numbers
-  -- which of them an order and a quote can get, read off document 01 once more
+  -- which of them an order, a message and a quote can get, read off the documents once more
   pub orders : orderNumbers ≡ 0 ∷ 1 ∷ 3 ∷ 4 ∷ 5 ∷ 6 ∷ 7 ∷ 8 ∷ 9 ∷ 10 ∷ 20 ∷ 21 ∷ 22 ∷ 23 ∷ 24 ∷ 25 ∷ []
+  pub messages : messageNumbers ≡ 0 ∷ 30 ∷ 31 ∷ 32 ∷ 3 ∷ 4 ∷ 5 ∷ 6 ∷ 7 ∷ 8 ∷ 9 ∷ 10 ∷ 20 ∷ 21 ∷ 22 ∷ 23 ∷ 24 ∷ 25 ∷ []
   pub quotes : quoteNumbers ≡ 0 ∷ 1 ∷ 4 ∷ 9 ∷ 10 ∷ 11 ∷ 20 ∷ 21 ∷ 26 ∷ []

@@ -33,7 +33,7 @@ module _ {A : Type 0} where
   expected [] = []
   expected (e ∷ es) = e .1 ∷ expected es
 
-  abbrev Hold : List (A × A) → Type 0
+  abbrev pub Hold : List (A × A) → Type 0
   Hold es = given es ≡ expected es
 
 abbrev minus : ℕ → ℤ
@@ -55,7 +55,7 @@ number st m t ls = asked st m t ls .number
 abbrev plain : ℤ → List Lent → OrderAnswer
 plain price ls = asked usual exampleMarket (limit price) ls
 
-abbrev answers : ℕ → ℕ → ℕ → ℕ → OrderAnswer
+abbrev pub answers : ℕ → ℕ → ℕ → ℕ → OrderAnswer
 answers n class shape pairings = record { number = n; class = class; shape = shape; pairings = pairings }
 
 -- a leg of any root and date

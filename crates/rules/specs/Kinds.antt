@@ -1,4 +1,4 @@
--- Document 01, Number and its author: every number, and what it says.
+-- Document 01, Number and its author, and the numbers that document 02's requests add: every number, and what it says.
 use mathlib.Core.List.{List, [], _∷_}
 use mathlib.Core.Bool.{Bool, cond, not, _||_}
 use Prim.Native.Nat.{ℕ}
@@ -10,7 +10,7 @@ pub data Kind : Type 0 where
   refuses : Kind
   rejects : Kind
 
--- "0 accepts"; "1 to 12 return zeros elsewhere" and refuse; "20 to 26 keep class, shape and pairings" and reject
+-- "0 accepts"; "1 to 12 return zeros elsewhere" and refuse; "20 to 26 keep class, shape and pairings" and reject; those of document 02 "refuse as its 1 to 12 do"
 abbrev pub numbers : List (ℕ × Kind)
 numbers =
     (0, accepts)
@@ -33,6 +33,9 @@ numbers =
     ∷ (24, rejects)
     ∷ (25, rejects)
     ∷ (26, rejects)
+    ∷ (30, refuses)
+    ∷ (31, refuses)
+    ∷ (32, refuses)
     ∷ []
 
 abbrev pub isAccepted : ℕ → Bool

@@ -1,4 +1,4 @@
--- Document 01's rules, a file for each of its sections; then what is promised of them.
+-- Document 01's rules, a file for each of its sections, and document 02's requests; then what is promised of them.
 pub mod Limits
 pub mod Lists
 pub mod Numerals
@@ -13,8 +13,11 @@ pub mod Kinds
 pub mod Numbers
 pub mod Valid
 pub mod Quote
+pub mod Fix
 pub mod Tally
 pub mod Examples
 pub mod Edges
+pub mod Texts
+pub mod Messages
 pub mod Demand1
 pub mod Demand2

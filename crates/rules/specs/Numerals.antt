@@ -1,4 +1,4 @@
--- Positional numerals, for the digits of a symbol and for a root as one number. A help to the sections of document 01, of no section itself.
+-- Positional numerals, for the digits of a symbol or a message and for a root as one number. A help to the sections of document 01, of no section itself.
 use mathlib.Core.List.{List, [], _∷_}
 use mathlib.Core.Bool.{Bool, true, _&&_}
 use Prim.Native.Nat.{ℕ, zero, suc, _+_, _-_, _*_, _/_, _%_, _^_}

@@ -9,6 +9,7 @@ use Rattle.rules.specs.declared.Tally.{Tally}
 use Rattle.rules.specs.declared.TalliedAnswer.{TalliedAnswer}
 use Rattle.rules.specs.Kinds.{isAccepted, isRejected, isRefused}
 use Rattle.rules.specs.Numbers.{refused, Inputs, answerTo}
+use Rattle.rules.specs.Fix.{MessageInputs, checkFix}
 
 -- "12 a tally that has seen 1,000,000 or more, or whose seen is not refused, accepted and rejected together": the true sum, not that of a word
 unfoldable pub isBadTally : Tally → Bool
@@ -32,17 +33,18 @@ counted t n =
 unfoldable pub tallied : Tally → OrderAnswer → TalliedAnswer
 tallied t answer = record { answer = cond (isBadTally t) (refused 12) answer; tally = cond (isBadTally t) t (counted t (answer .number)) }
 
--- one call of the tallied check: what the order check is called with
-pub record Call : Type 0 where
-  pub inputs : Inputs
-  pub symbols : List ℕ
-  pub counts : List ℕ
+-- one call of a tallied check: what the order check, or the check on messages (document 02, S-1), is called with
+pub data Call : Type 0 where
+  order : (a : Inputs) (symbols counts : List ℕ) → Call
+  message : (a : MessageInputs) (m : List ℕ) → Call
 
-abbrev pub orderAnswer : Call → OrderAnswer
-orderAnswer c = answerTo (c .inputs) (c .symbols) (c .counts)
+-- the answer of the call's own check
+abbrev pub ownAnswer : Call → OrderAnswer
+ownAnswer (order a symbols counts) = answerTo a symbols counts
+ownAnswer (message a m) = checkFix a m
 
 unfoldable pub checkTallied : Tally → Call → TalliedAnswer
-checkTallied t c = tallied t (orderAnswer c)
+checkTallied t c = tallied t (ownAnswer c)
 
 -- the numbers that a list of tallied checks gets, each with the tally that the one before left
 unfoldable pub numbersOf : Tally → List Call → List ℕ
@@ -75,6 +77,6 @@ pub record Tallies (cs : List Call) : Type 0 where
 pub record TallyTheorem : Type 0 where
   pub lists : (cs : List Call) → Tallies cs
   -- "A tallied check gives the same number"
-  pub same : (t : Tally) (c : Call) → (checkTallied t c .answer .number ≡ 12 → ⊥) → checkTallied t c .answer ≡ orderAnswer c
+  pub same : (t : Tally) (c : Call) → (checkTallied t c .answer .number ≡ 12 → ⊥) → checkTallied t c .answer ≡ ownAnswer c
   -- the tally keeps its own sum
   pub sum : (t : Tally) (c : Call) → t .seen ≡ t .refused + t .accepted + t .rejected → let u = checkTallied t c .tally in u .seen ≡ u .refused + u .accepted + u .rejected

@@ -24,8 +24,8 @@ pub struct SymbolRead {
     pub parts: SymbolParts,
 }
 
-// One leg as it arrives: the count's size and side, and 21 symbol bytes, whatever they hold. A count of 0 is bought, of
-// size 0.
+// One leg as it arrives: the count's size and side, and 21 symbol bytes, whatever they hold. A count of 0
+// in the host's slices is bought, of size 0.
 pub struct RawLeg {
     pub size: u64,
     pub bought: bool,

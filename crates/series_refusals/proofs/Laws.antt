@@ -12,8 +12,9 @@ use Rattle.rules.specs.declared.Leg.{Leg}
 use Rattle.rules.specs.Lists.{All, any, somePair}
 use Rattle.rules.specs.Numbers.{isSameSeries, isOtherRoot}
 use Rattle.rules.specs.Valid.{InRange}
-use Rattle.rules.proofs.Tests.{and-true, and-both, and-of, same-eq}
+use Rattle.rules.proofs.Tests.{and-true, and-both, and-of, same-test, same-eq}
 use Rattle.laws.proofs.Sorting.{somePair-perm, map-perm}
+use Rattle.laws.proofs.Sequence.{eqb-turn}
 use Rattle.loops.proofs.Finding.{step, any-turn}
 use Rattle.sorting.specs.Keys.{sortKeys, withPlaces, EachTwo}
 use Rattle.sorting.proofs.Laws.{sort-same, sort-ascends}
@@ -24,15 +25,6 @@ use Rattle.arranging.proofs.Zip.{zip-length, zip-at, zip-take}
 use Rattle.series_refusals.specs.Twice.{isOneKey, someNext, noKey, withRoot, keysOf, isSameKey}
 
 -- ---- neighbours
-
--- tests that pass alike are the same
-same-test : (a b : Bool) → (a ≡ true → b ≡ true) → (b ≡ true → a ≡ true) → a ≡ b
-same-test true b f g = sym (f refl)
-same-test false true f g = g refl
-same-test false false f g = refl
-
-eqb-turn : (a b : ℕ) → eqb a b ≡ eqb b a
-eqb-turn a b = same-test _ _ (λ e. eq-eqb b a (sym (eqb-true a b e))) (λ e. eq-eqb a b (sym (eqb-true b a e)))
 
 -- where a place and the next are not of one key, neither is it with any later one
 apart : (p q : ℕ) (ps : List ℕ) → p ≤ q → isOneKey p q ≡ false → All (λ z. q ≤ z) ps → any (eqb (keyIn p)) (map keyIn ps) ≡ false

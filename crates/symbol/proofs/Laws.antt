@@ -16,7 +16,7 @@ use Rattle.rules.specs.Symbol.{isRoot, isRight, isStrike, monthLengths, leapDay
 use Rattle.rules.proofs.Tests.{and-both, within-both}
 use Rattle.rules.proofs.Numerals.{digits-append}
 use Rattle.rules.proofs.Slices.{bytesAt, slice-bytes}
-use Rattle.rules.proofs.Symbols.{month-small, limits, read-of, read-outside, read-cases}
+use Rattle.rules.proofs.Symbols.{month-small, limits, read-of, read-cases}
 
 abbrev Digits : List ℕ → Type 0
 Digits bs = areDigits 10 48 bs ≡ true
@@ -63,9 +63,6 @@ module _ (s : List ℕ) (long : length s ≡ 21) where
   -- the number is 0 exactly where the bytes are in the layout
   pub read-good : isSymbol s ≡ true → readSymbol s ≡ record { number = 0; parts = partsOf s }
   read-good h = read-of s long h
-
-  pub read-bad : isSymbol s ≡ false → readSymbol s .number ≡ 4
-  read-bad h = rw (read-outside s long h)
 
 -- the leap day is February's, which has 28 days without it
 days-small : (year month : ℕ) → daysIn year month ≤ 31

@@ -10,19 +10,13 @@ use borrow.Author.Tests.{eqb-true, eqb-false, eq-eqb, ltb-true, lt-ltb, le-ltb}
 use Rattle.rules.specs.declared.Leg.{Leg}
 use Rattle.rules.specs.Lists.{sameBool}
 use Rattle.rules.specs.Pairing.{pairOf, matched, isDebit}
-use Rattle.rules.proofs.Tests.{and-both}
+use Rattle.rules.proofs.Tests.{and-both, same-test}
 use Rattle.keys.specs.Tags.{isBought, groupOf, seriesAt, legAt}
 use Rattle.tagged.specs.declared.PairTally.{PairTally}
 use Rattle.tagged.specs.Tags.{together, matchedAt, debitKeys, debitAt, oneMore, noteAt, noted}
 
 abbrev Small : ℕ → Type 0
 Small tag = tag < 40000000000000000
-
--- two tests that hold together
-same-test : (a b : Bool) → (a ≡ true → b ≡ true) → (b ≡ true → a ≡ true) → a ≡ b
-same-test true b h k = sym (h refl)
-same-test false true h k = k refl
-same-test false false h k = refl
 
 -- the type's digit is 0 or 1
 call-digit : (a b : ℕ) → a ≤ 1 → b ≤ 1 → sameBool (eqb a 1) (eqb b 1) ≡ eqb a b
