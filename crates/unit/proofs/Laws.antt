@@ -9,10 +9,15 @@ use Rattle.rules.specs.declared.OrderAnswer.{OrderAnswer}
 use Rattle.rules.specs.declared.Tally.{Tally}
 use Rattle.rules.specs.declared.TalliedAnswer.{TalliedAnswer}
 use Rattle.rules.specs.Numbers.{checkSlices}
-use Rattle.rules.specs.Tally.{tallied, Call, orderAnswer, checkTallied}
+use Rattle.rules.specs.Fix.{checkFix}
+use Rattle.rules.specs.Tally.{tallied, Call, ownAnswer, checkTallied}
 
 pub same-check : (symbols counts : List ℕ) {st st′ : Settings} {m m′ : Market} {t t′ : Terms} → st ≡ st′ → m ≡ m′ → t ≡ t′ → checkSlices st m t symbols counts ≡ checkSlices st′ m′ t′ symbols counts
 same-check symbols counts p q r = λ i. checkSlices (p i) (q i) (r i) symbols counts
+
+pub same-message : (message : List ℕ) (stop manual opening : ℕ) {st st′ : Settings} {m m′ : Market} → st ≡ st′ → m ≡ m′
+    → checkFix (record { settings = st; market = m; stop = stop; manual = manual; opening = opening }) message ≡ checkFix (record { settings = st′; market = m′; stop = stop; manual = manual; opening = opening }) message
+same-message message stop manual opening p q = λ i. checkFix (record { settings = p i; market = q i; stop = stop; manual = manual; opening = opening }) message
 
 -- an answer is its fields
 pub fields : (a : OrderAnswer) {b : OrderAnswer} → a ≡ b → record { number = a .number; class = a .class; shape = a .shape; pairings = a .pairings } ≡ b
@@ -24,6 +29,6 @@ inFields a = record { number = a .number; class = a .class; shape = a .shape; pa
 abbrev tallyFields : Tally → Tally
 tallyFields t = record { seen = t .seen; refused = t .refused; accepted = t .accepted; rejected = t .rejected }
 
-pub tallied-fields : (r : TalliedAnswer) (t : Tally) (c : Call) → r ≡ tallied t (orderAnswer c) → record { answer = inFields (r .answer); tally = tallyFields (r .tally) } ≡ checkTallied t c
+pub tallied-fields : (r : TalliedAnswer) (t : Tally) (c : Call) → r ≡ tallied t (ownAnswer c) → record { answer = inFields (r .answer); tally = tallyFields (r .tally) } ≡ checkTallied t c
 unfolding checkTallied
 tallied-fields r t c p = λ i. record { answer = inFields (p i .answer); tally = tallyFields (p i .tally) }

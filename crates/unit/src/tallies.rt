@@ -7,7 +7,7 @@ use tally::tallied;
 use terms::terms_of;
 ghost use mathlib.Core.Path.{_≡_};
 ghost use Rattle.rules.specs.Market.{settingsOf, marketOf};
-ghost use Rattle.rules.specs.Tally.{checkTallied};
+ghost use Rattle.rules.specs.Tally.{order, checkTallied};
 
 // Checks an order and adds it to a tally. The tally is lent both ways.
 #[no_mangle]
@@ -29,7 +29,7 @@ pub extern "C" fn opc_check_order_tallied(
     accepted: &mut u64,
     rejected: &mut u64,
 ) -> u64
-    ensures { λ r. ⌜ record { answer = record { number = r; class = now (class .exit); shape = now (shape .exit); pairings = now (pairings .exit) }; tally = record { seen = now (seen .exit); refused = now (refused .exit); accepted = now (accepted .exit); rejected = now (rejected .exit) } } ≡ checkTallied (record { seen = now (seen .entry); refused = now (refused .entry); accepted = now (accepted .entry); rejected = now (rejected .entry) }) (record { inputs = (record { settings = settingsOf (now (settings .entry)); market = marketOf (now (market .entry)); price = price; kind = kind; stop = stop; manual = manual; opening = opening }); symbols = now (symbols .entry); counts = now (counts .entry) }) ⌝ }
+    ensures { λ r. ⌜ record { answer = record { number = r; class = now (class .exit); shape = now (shape .exit); pairings = now (pairings .exit) }; tally = record { seen = now (seen .exit); refused = now (refused .exit); accepted = now (accepted .exit); rejected = now (rejected .exit) } } ≡ checkTallied (record { seen = now (seen .entry); refused = now (refused .entry); accepted = now (accepted .entry); rejected = now (rejected .entry) }) (order (record { settings = settingsOf (now (settings .entry)); market = marketOf (now (market .entry)); price = price; kind = kind; stop = stop; manual = manual; opening = opening }) (now (symbols .entry)) (now (counts .entry))) ⌝ }
 {
     let terms = terms_of(price, kind, stop, manual, opening);
     let set = settings_of(settings);

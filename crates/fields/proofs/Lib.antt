@@ -1,0 +1,4 @@
+mod Runs
+mod Tags
+pub mod Laws
+mod Reading

@@ -1,0 +1,1 @@
+// No code: laws that a frame read field by field is the frame of the message.

@@ -1,0 +1,3 @@
+pub mod Groups
+pub mod Written
+pub mod Checked

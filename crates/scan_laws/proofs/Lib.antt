@@ -1,0 +1,12 @@
+pub mod Bodies
+pub mod Bytes
+pub mod Firsts
+pub mod Frames
+pub mod Heads
+pub mod Loop
+pub mod Message
+pub mod Orders
+pub mod Parts
+pub mod Standing
+pub mod Tails
+pub mod Tests
