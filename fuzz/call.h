@@ -7,11 +7,22 @@
 
 #include <stdbool.h>
 
-enum entry { READ_SYMBOL, WRITE_SYMBOL, CHECK_ORDER, CHECK_ORDER_TALLIED, CHECK_QUOTE, ENTRIES };
+enum entry {
+    READ_SYMBOL,
+    WRITE_SYMBOL,
+    CHECK_ORDER,
+    CHECK_ORDER_TALLIED,
+    CHECK_FIX,
+    CHECK_FIX_TALLIED,
+    CHECK_QUOTE,
+    ENTRIES
+};
 
 /* More than 17 legs, and odd lengths beyond. */
 #define MOST_SYMBOL_BYTES 400
 #define MOST_COUNT_BYTES 150
+/* More than the message of 17 legs. */
+#define MOST_MESSAGE_BYTES 1200
 /* The longest slice for one symbol, and the longest buffer to write in. */
 #define MOST_BYTES_OF_ONE 48
 
@@ -28,6 +39,8 @@ struct call {
     size_t symbols_len;
     uint8_t counts[MOST_COUNT_BYTES];
     size_t counts_len;
+    uint8_t message[MOST_MESSAGE_BYTES];
+    size_t message_len;
     struct opc_symbol_parts parts;
     size_t out_len;
     int64_t price;
@@ -47,6 +60,14 @@ struct call {
 
 static inline bool is_order(const struct call *call) {
     return call->entry == CHECK_ORDER || call->entry == CHECK_ORDER_TALLIED;
+}
+
+static inline bool is_message(const struct call *call) {
+    return call->entry == CHECK_FIX || call->entry == CHECK_FIX_TALLIED;
+}
+
+static inline bool is_tallied(const struct call *call) {
+    return call->entry == CHECK_ORDER_TALLIED || call->entry == CHECK_FIX_TALLIED;
 }
 
 /* How an input becomes a call of one entry. */

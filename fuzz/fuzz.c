@@ -16,9 +16,12 @@
 
 #define SEEDS_VARIABLE "FUZZ_SEEDS"
 
-static const char *const entry_names[ENTRIES] = {"opc_read_symbol", "opc_write_symbol",
-                                                 "opc_check_order", "opc_check_order_tallied",
-                                                 "opc_check_quote"};
+static const char *const entry_names[ENTRIES] = {
+    [READ_SYMBOL] = "opc_read_symbol", [WRITE_SYMBOL] = "opc_write_symbol",
+    [CHECK_ORDER] = "opc_check_order", [CHECK_ORDER_TALLIED] = "opc_check_order_tallied",
+    [CHECK_FIX] = "opc_check_fix",     [CHECK_FIX_TALLIED] = "opc_check_fix_tallied",
+    [CHECK_QUOTE] = "opc_check_quote",
+};
 
 /* ---- Counting. ---- */
 
@@ -92,6 +95,14 @@ static struct opc_order order_of(const struct call *call, const uint8_t *symbols
                               .opening = call->opening};
 }
 
+static struct opc_fix fix_of(const struct call *call, const uint8_t *message) {
+    return (struct opc_fix){.message = message,
+                            .message_len = call->message_len,
+                            .stop = call->stop,
+                            .manual = call->manual,
+                            .opening = call->opening};
+}
+
 static struct opc_quote quote_of(const struct call *call, const uint8_t *symbol) {
     return (struct opc_quote){.symbol = symbol,
                               .symbol_len = call->symbols_len,
@@ -126,14 +137,18 @@ static void print_symbol_call(const struct call *call) {
 
 static void print_call(const struct call *call) {
     struct opc_order order = order_of(call, call->symbols, call->counts);
+    struct opc_fix fix = fix_of(call, call->message);
     struct opc_quote quote = quote_of(call, call->symbols);
     struct second_terms terms = terms_of(call);
+    const struct opc_tally *tally = is_tallied(call) ? &call->tally : NULL;
     switch (call->entry) {
     case CHECK_ORDER:
-        second_print_order(&order, &terms, NULL);
-        break;
     case CHECK_ORDER_TALLIED:
-        second_print_order(&order, &terms, &call->tally);
+        second_print_order(&order, &terms, tally);
+        break;
+    case CHECK_FIX:
+    case CHECK_FIX_TALLIED:
+        second_print_fix(&fix, &terms, tally);
         break;
     case CHECK_QUOTE:
         second_print_quote(&quote, &terms);
@@ -177,6 +192,7 @@ static void expect_equal(const struct call *call, const char *what, const void *
 
 static struct lent lent_symbols;
 static struct lent lent_counts;
+static struct lent lent_message;
 static struct lent lent_settings;
 static struct lent lent_market;
 
@@ -194,6 +210,11 @@ static const uint8_t *lend_counts(const struct call *call, bool last) {
     return lend(&lent_counts, call->counts, call->counts_len, last, is_null(call));
 }
 
+static const uint8_t *lend_message(const struct call *call, bool last) {
+    calls[call->entry]++;
+    return lend(&lent_message, call->message, call->message_len, last, is_null(call));
+}
+
 static const void *lend_settings(const struct call *call, bool last) {
     size_t size = call->settings_len * sizeof call->settings[0];
     return lend(&lent_settings, call->settings, size, last, is_null(call));
@@ -206,8 +227,8 @@ static const void *lend_market(const struct call *call, bool last) {
 
 /* Of every slice, so of those that this call was not lent too. */
 static void expect_kept(const struct call *call) {
-    bool kept = is_kept(&lent_symbols) && is_kept(&lent_counts) && is_kept(&lent_settings) &&
-                is_kept(&lent_market);
+    bool kept = is_kept(&lent_symbols) && is_kept(&lent_counts) && is_kept(&lent_message) &&
+                is_kept(&lent_settings) && is_kept(&lent_market);
     expect(kept, call, "a lent slice, or what is around it, was changed");
 }
 
@@ -300,7 +321,7 @@ static void try_write(const struct call *call) {
     }
 }
 
-/* ---- Orders. ---- */
+/* ---- Orders and messages. ---- */
 
 #define TERMS_OF(call, last)                                                                       \
     lend_settings(call, last), (call)->settings_len, lend_market(call, last), (call)->market_len
@@ -308,6 +329,14 @@ static void try_write(const struct call *call) {
     lend_symbols(call, last), (call)->symbols_len, lend_counts(call, last), (call)->counts_len,    \
         (call)->price, (call)->kind, (call)->stop, (call)->manual, (call)->opening,                \
         TERMS_OF(call, last)
+#define FIX_OF(call, last)                                                                         \
+    lend_message(call, last), (call)->message_len, (call)->stop, (call)->manual, (call)->opening,  \
+        TERMS_OF(call, last)
+
+/* The lent numbers of an answer, and of a tally after it. */
+#define ANSWER_IN(lent) lent_number(lent, 0), lent_number(lent, 1), lent_number(lent, 2)
+#define TALLY_IN(lent)                                                                             \
+    lent_number(lent, 3), lent_number(lent, 4), lent_number(lent, 5), lent_number(lent, 6)
 
 /* The inline functions take structs, which there are for slices of the right lengths only. */
 static bool has_structs(const struct call *call) {
@@ -321,26 +350,40 @@ static struct opc_answer answer_of(uint64_t number, struct lent_numbers *lent) {
                                .pairings = *lent_number(lent, 2)};
 }
 
-static struct opc_answer order_directly(const struct call *call, bool last) {
+static struct opc_answer check_directly(const struct call *call, bool last) {
     struct lent_numbers lent = lend_numbers(unset[last]);
-    uint64_t number = opc_check_order(ORDER_OF(call, last), lent_number(&lent, 0),
-                                      lent_number(&lent, 1), lent_number(&lent, 2));
+    uint64_t number = is_message(call) ? opc_check_fix(FIX_OF(call, last), ANSWER_IN(&lent))
+                                       : opc_check_order(ORDER_OF(call, last), ANSWER_IN(&lent));
     expect_kept(call);
     expect_guards(call, &lent);
     return answer_of(number, &lent);
 }
 
 /* Where there are structs; otherwise directly. */
-static struct opc_answer order_inlined(const struct call *call) {
+static struct opc_answer check_inlined(const struct call *call) {
     bool last = (call->choice & 2) == 2;
+    struct opc_answer answer;
     if (!has_structs(call)) {
-        return order_directly(call, last);
+        return check_directly(call, last);
     }
-    struct opc_order order = order_of(call, lend_symbols(call, last), lend_counts(call, last));
-    struct opc_answer answer =
-        opc_answer_order(&order, lend_settings(call, last), lend_market(call, last));
+    const struct opc_settings *settings = lend_settings(call, last);
+    const struct opc_market *market = lend_market(call, last);
+    if (is_message(call)) {
+        struct opc_fix fix = fix_of(call, lend_message(call, last));
+        answer = opc_answer_fix(&fix, settings, market);
+    } else {
+        struct opc_order order = order_of(call, lend_symbols(call, last), lend_counts(call, last));
+        answer = opc_answer_order(&order, settings, market);
+    }
     expect_kept(call);
     return answer;
+}
+
+static struct opc_answer check_second(const struct call *call) {
+    struct opc_order order = order_of(call, call->symbols, call->counts);
+    struct opc_fix fix = fix_of(call, call->message);
+    struct second_terms terms = terms_of(call);
+    return is_message(call) ? second_check_fix(&fix, &terms) : second_check_order(&order, &terms);
 }
 
 /* opc_write_count, of any number: eight bytes, low byte first, and none beside them. */
@@ -362,32 +405,66 @@ static void swap_bytes(uint8_t *one, uint8_t *other, size_t len) {
 }
 
 /* Whole legs change places, where the slices divide into legs. */
-static struct call in_another_sequence(const struct call *call) {
-    struct call turned = *call;
-    size_t n = call->counts_len / OPC_COUNT_LENGTH;
-    bool whole = call->counts_len % OPC_COUNT_LENGTH == 0;
-    if (!whole || call->symbols_len != n * OPC_SYMBOL_LENGTH) {
-        return turned;
+static void turn_legs(struct call *turned) {
+    size_t n = turned->counts_len / OPC_COUNT_LENGTH;
+    bool whole = turned->counts_len % OPC_COUNT_LENGTH == 0;
+    if (!whole || turned->symbols_len != n * OPC_SYMBOL_LENGTH) {
+        return;
     }
-    uint32_t state = call->choice;
+    uint32_t state = turned->choice;
     for (size_t i = n; i > 1; i--) {
         state = state * 1664525 + 1013904223;
         size_t other = (state >> 16) % i;
-        swap_bytes(turned.symbols + (i - 1) * OPC_SYMBOL_LENGTH,
-                   turned.symbols + other * OPC_SYMBOL_LENGTH, OPC_SYMBOL_LENGTH);
-        swap_bytes(turned.counts + (i - 1) * OPC_COUNT_LENGTH,
-                   turned.counts + other * OPC_COUNT_LENGTH, OPC_COUNT_LENGTH);
+        swap_bytes(turned->symbols + (i - 1) * OPC_SYMBOL_LENGTH,
+                   turned->symbols + other * OPC_SYMBOL_LENGTH, OPC_SYMBOL_LENGTH);
+        swap_bytes(turned->counts + (i - 1) * OPC_COUNT_LENGTH,
+                   turned->counts + other * OPC_COUNT_LENGTH, OPC_COUNT_LENGTH);
+    }
+}
+
+/* The place after 555 in a message whose tags are right; a value has no end of a field. */
+static size_t first_group(const struct call *call) {
+    size_t at = 0;
+    while (call->message_len - at > 4 && memcmp(call->message + at, "555=", 4) != 0) {
+        at = after_field(call, at);
+    }
+    return after_field(call, at);
+}
+
+/* The first group of a message comes after its last one, where the tags are right. */
+static void turn_groups(struct call *turned) {
+    size_t start = first_group(turned), end = start;
+    size_t second = after_field(turned, after_field(turned, after_field(turned, start)));
+    uint8_t kept[MOST_MESSAGE_BYTES];
+    while (turned->message_len - end > 4 && (memcmp(turned->message + end, "600=", 4) == 0 ||
+                                             memcmp(turned->message + end, "623=", 4) == 0 ||
+                                             memcmp(turned->message + end, "624=", 4) == 0)) {
+        end = after_field(turned, end);
+    }
+    if (second < end) {
+        size_t len = second - start;
+        memcpy(kept, turned->message + start, len);
+        memmove(turned->message + start, turned->message + second, end - second);
+        memcpy(turned->message + end - len, kept, len);
+    }
+}
+
+/* The same call with the legs in another sequence; of a message only if its tags are right. */
+static struct call in_another_sequence(const struct call *call, uint64_t number) {
+    struct call turned = *call;
+    if (!is_message(call)) {
+        turn_legs(&turned);
+    } else if (number != OPC_BAD_FRAME && number != OPC_BAD_TAG) {
+        turn_groups(&turned);
     }
     return turned;
 }
 
-/* Both answers to an order, counted; gives the number. */
-static uint64_t ask_order(const struct call *call, struct opc_answer *second) {
-    struct opc_order order = order_of(call, call->symbols, call->counts);
-    struct second_terms terms = terms_of(call);
-    *second = second_check_order(&order, &terms);
-    struct opc_answer answer = order_directly(call, true);
-    expect_equal(call, "the answer to an order", &answer, second, sizeof answer);
+/* Both answers, counted; gives the number. */
+static uint64_t ask(const struct call *call, struct opc_answer *second) {
+    *second = check_second(call);
+    struct opc_answer answer = check_directly(call, true);
+    expect_equal(call, "the answer", &answer, second, sizeof answer);
     count_order(call, &answer);
     return answer.number;
 }
@@ -399,22 +476,42 @@ static void ask_order_nearby(const struct call *call) {
     struct opc_answer second;
     for (size_t i = 0; i < sizeof prices / sizeof prices[0]; i++) {
         near.price = prices[i];
-        ask_order(&near, &second);
+        ask(&near, &second);
     }
 }
 
-static void try_order(const struct call *call) {
+/* The same message with one byte of its body another, length and sum being right. */
+static void ask_message_nearby(const struct call *call) {
+    static const uint8_t bytes[] = {'0', '1', '2', '9', '=', '.', '-', FIELD_END, ' ', 0};
+    struct call near = *call;
+    struct opc_answer second;
+    struct text body = body_in(call);
+    uint32_t state = call->choice;
+    for (size_t i = 0; i < sizeof bytes && body.len > 0; i++) {
+        state = state * 1664525 + 1013904223;
+        size_t at = (state >> 8) % body.len;
+        uint8_t kept = body.bytes[at];
+        body.bytes[at] = bytes[i];
+        frame(&near, &body, &right_frame);
+        ask(&near, &second);
+        body.bytes[at] = kept;
+    }
+}
+
+static void try_check(const struct call *call) {
     struct opc_answer second;
     try_count(call);
-    uint64_t number = ask_order(call, &second);
-    struct opc_answer answer = order_directly(call, false);
-    expect_equal(call, "the answer to the order again", &answer, &second, sizeof answer);
-    answer = order_inlined(call);
+    uint64_t number = ask(call, &second);
+    struct opc_answer answer = check_directly(call, false);
+    expect_equal(call, "the answer again", &answer, &second, sizeof answer);
+    answer = check_inlined(call);
     expect_equal(call, "the answer through structs", &answer, &second, sizeof answer);
-    struct call turned = in_another_sequence(call);
-    answer = order_inlined(&turned);
+    struct call turned = in_another_sequence(call, number);
+    answer = check_inlined(&turned);
     expect_equal(&turned, "the answer in another sequence", &answer, &second, sizeof answer);
-    if (is_valid(number)) {
+    if (is_message(call) && number != OPC_BAD_FRAME) {
+        ask_message_nearby(call);
+    } else if (!is_message(call) && is_valid(number)) {
         ask_order_nearby(call);
     }
 }
@@ -426,9 +523,10 @@ static struct opc_answer tallied_directly(const struct call *call, bool last,
     *lent_number(&lent, 4) = tally->refused;
     *lent_number(&lent, 5) = tally->accepted;
     *lent_number(&lent, 6) = tally->rejected;
-    uint64_t number = opc_check_order_tallied(
-        ORDER_OF(call, last), lent_number(&lent, 0), lent_number(&lent, 1), lent_number(&lent, 2),
-        lent_number(&lent, 3), lent_number(&lent, 4), lent_number(&lent, 5), lent_number(&lent, 6));
+    uint64_t number =
+        is_message(call)
+            ? opc_check_fix_tallied(FIX_OF(call, last), ANSWER_IN(&lent), TALLY_IN(&lent))
+            : opc_check_order_tallied(ORDER_OF(call, last), ANSWER_IN(&lent), TALLY_IN(&lent));
     expect_kept(call);
     expect_guards(call, &lent);
     *tally = (struct opc_tally){.seen = *lent_number(&lent, 3),
@@ -440,46 +538,60 @@ static struct opc_answer tallied_directly(const struct call *call, bool last,
 
 static struct opc_answer tallied_inlined(const struct call *call, struct opc_tally *tally) {
     bool last = (call->choice & 2) == 2;
+    struct opc_answer answer;
     if (!has_structs(call)) {
         return tallied_directly(call, last, tally);
     }
-    struct opc_order order = order_of(call, lend_symbols(call, last), lend_counts(call, last));
-    struct opc_answer answer =
-        opc_answer_order_tallied(&order, lend_settings(call, last), lend_market(call, last), tally);
+    const struct opc_settings *settings = lend_settings(call, last);
+    const struct opc_market *market = lend_market(call, last);
+    if (is_message(call)) {
+        struct opc_fix fix = fix_of(call, lend_message(call, last));
+        answer = opc_answer_fix_tallied(&fix, settings, market, tally);
+    } else {
+        struct opc_order order = order_of(call, lend_symbols(call, last), lend_counts(call, last));
+        answer = opc_answer_order_tallied(&order, settings, market, tally);
+    }
     expect_kept(call);
     return answer;
+}
+
+static struct opc_answer tallied_second(const struct call *call, struct opc_tally *tally) {
+    struct opc_order order = order_of(call, call->symbols, call->counts);
+    struct opc_fix fix = fix_of(call, call->message);
+    struct second_terms terms = terms_of(call);
+    return is_message(call) ? second_check_fix_tallied(&fix, &terms, tally)
+                            : second_check_order_tallied(&order, &terms, tally);
 }
 
 /* The number of calls that one tally is lent to, one after another. */
 #define TALLIED_CALLS 3
 
 static void try_tallied(const struct call *call) {
-    struct opc_order order = order_of(call, call->symbols, call->counts);
-    struct second_terms terms = terms_of(call);
     struct opc_tally tally = call->tally;
     struct opc_tally second_tally = call->tally;
+    struct opc_answer second;
     for (int i = 0; i < TALLIED_CALLS; i++) {
         struct call now = *call; /* with the tally as it comes to this call */
         now.tally = tally;
-        struct opc_answer second = second_check_order_tallied(&order, &terms, &second_tally);
+        second = tallied_second(call, &second_tally);
         struct opc_answer answer = i == TALLIED_CALLS - 1 ? tallied_inlined(&now, &tally)
                                                           : tallied_directly(&now, i == 0, &tally);
-        expect_equal(&now, "the answer to a tallied order", &answer, &second, sizeof answer);
+        expect_equal(&now, "the tallied answer", &answer, &second, sizeof answer);
         expect_equal(&now, "the tally after it", &tally, &second_tally, sizeof tally);
         if (i == 0) {
             count_order(&now, &answer);
         }
         if (answer.number != OPC_BAD_TALLY) {
-            struct opc_answer untallied = order_inlined(&now);
+            struct opc_answer untallied = check_inlined(&now);
             expect_equal(&now, "the answer with and without a tally", &answer, &untallied,
                          sizeof answer);
         }
     }
-    struct call turned = in_another_sequence(call);
+    struct call turned = in_another_sequence(call, check_second(call).number);
     tally = call->tally;
     second_tally = call->tally;
     struct opc_answer answer = tallied_inlined(&turned, &tally);
-    struct opc_answer second = second_check_order_tallied(&order, &terms, &second_tally);
+    second = tallied_second(call, &second_tally);
     expect_equal(&turned, "the tallied answer in another sequence", &answer, &second,
                  sizeof answer);
     expect_equal(&turned, "the tally in another sequence", &tally, &second_tally, sizeof tally);
@@ -559,9 +671,9 @@ int LLVMFuzzerInitialize(int *argc, char ***argv) {
 }
 
 int LLVMFuzzerTestOneInput(const uint8_t *data, size_t size) {
-    static const enum entry entries[] = {READ_SYMBOL, WRITE_SYMBOL, CHECK_ORDER,
-                                         CHECK_ORDER, CHECK_ORDER,  CHECK_ORDER_TALLIED,
-                                         CHECK_QUOTE, CHECK_QUOTE};
+    static const enum entry entries[] = {
+        READ_SYMBOL, WRITE_SYMBOL, CHECK_ORDER, CHECK_ORDER, CHECK_ORDER, CHECK_ORDER_TALLIED,
+        CHECK_QUOTE, CHECK_QUOTE,  CHECK_FIX,   CHECK_FIX,   CHECK_FIX,   CHECK_FIX_TALLIED};
     struct input in = {data, size};
     struct call call;
     memset(&call, 0, sizeof call);
@@ -580,7 +692,8 @@ int LLVMFuzzerTestOneInput(const uint8_t *data, size_t size) {
         try_quote(&call);
         break;
     case CHECK_ORDER:
-        try_order(&call);
+    case CHECK_FIX:
+        try_check(&call);
         break;
     default:
         try_tallied(&call);

@@ -17,7 +17,7 @@
 #include <unistd.h>
 
 /* More than the longest slice; a page is longer. */
-#define WATCHED 512
+#define WATCHED 1280
 #define AROUND 0xa5
 
 /* A page between two that may not be touched. */

@@ -6,6 +6,7 @@
 #define RAW_H
 
 #include "call.h"
+#include "messages.h"
 
 static inline void raw_slices(struct input *in, struct call *call) {
     if (is_order(call)) {
@@ -33,20 +34,39 @@ static inline void raw_settings_and_market(struct input *in, struct call *call) 
     call->market_len = raw_numbers(in, call->market, MOST_MARKET_VALUES);
 }
 
-static inline void raw_order(struct input *in, struct call *call) {
-    raw_slices(in, call);
-    call->price = (int64_t)take_number(in, 8);
-    call->kind = take_number(in, 8);
+static inline void raw_terms(struct input *in, struct call *call) {
     call->stop = take_number(in, 8);
     call->manual = take_number(in, 8);
     call->opening = take_number(in, 8);
     raw_settings_and_market(in, call);
-    if (call->entry == CHECK_ORDER_TALLIED) {
+    if (is_tallied(call)) {
         call->tally.seen = take_number(in, 8);
         call->tally.refused = take_number(in, 8);
         call->tally.accepted = take_number(in, 8);
         call->tally.rejected = take_number(in, 8);
     }
+}
+
+static inline void raw_order(struct input *in, struct call *call) {
+    raw_slices(in, call);
+    call->price = (int64_t)take_number(in, 8);
+    call->kind = take_number(in, 8);
+    raw_terms(in, call);
+}
+
+/* The bytes are the message itself, or a body that a right frame is put around. */
+static inline void raw_fix(struct input *in, struct call *call) {
+    struct text body;
+    bool is_body = take(in) % 2 == 1;
+    body.len = (size_t)take_number(in, 2) % MOST_BODY_BYTES;
+    take_bytes(in, body.bytes, body.len);
+    if (is_body) {
+        frame(call, &body, &right_frame);
+    } else {
+        call->message_len = body.len;
+        memcpy(call->message, body.bytes, body.len);
+    }
+    raw_terms(in, call);
 }
 
 static inline void raw_quote(struct input *in, struct call *call) {
@@ -69,7 +89,8 @@ static inline void raw_parts(struct input *in, struct call *call) {
 
 static form *const raw_forms[ENTRIES] = {
     [READ_SYMBOL] = raw_slices,        [WRITE_SYMBOL] = raw_parts, [CHECK_ORDER] = raw_order,
-    [CHECK_ORDER_TALLIED] = raw_order, [CHECK_QUOTE] = raw_quote,
+    [CHECK_ORDER_TALLIED] = raw_order, [CHECK_FIX] = raw_fix,      [CHECK_FIX_TALLIED] = raw_fix,
+    [CHECK_QUOTE] = raw_quote,
 };
 
 #endif

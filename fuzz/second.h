@@ -21,12 +21,18 @@ struct opc_answer second_check_order(const struct opc_order *order,
 struct opc_answer second_check_order_tallied(const struct opc_order *order,
                                              const struct second_terms *terms,
                                              struct opc_tally *tally);
+struct opc_answer second_check_fix(const struct opc_fix *fix, const struct second_terms *terms);
+struct opc_answer second_check_fix_tallied(const struct opc_fix *fix,
+                                           const struct second_terms *terms,
+                                           struct opc_tally *tally);
 struct opc_quote_answer second_check_quote(const struct opc_quote *quote,
                                            const struct second_terms *terms);
 
 /* Print a case for a reader, and the line that replays it; a tally is NULL where there is none. */
 void second_print_order(const struct opc_order *order, const struct second_terms *terms,
                         const struct opc_tally *tally);
+void second_print_fix(const struct opc_fix *fix, const struct second_terms *terms,
+                      const struct opc_tally *tally);
 void second_print_quote(const struct opc_quote *quote, const struct second_terms *terms);
 
 /* Writes inputs to begin with, one file each. */

@@ -7,8 +7,7 @@
 #define SHAPED_H
 
 #include "call.h"
-
-#include <stdio.h>
+#include "messages.h"
 
 #define SHAPED_LEGS 17
 #define LARGEST_STRIKE 99999999
@@ -475,12 +474,17 @@ static inline void shaped_order(struct input *in, struct call *call) {
     scale(in, legs, n);
     put_legs(call, pool.root, legs, n);
     put_terms(in, call, &terms);
-    if (call->entry == CHECK_ORDER_TALLIED) {
+    if (is_tallied(call)) {
         call->tally = shaped_tally(in);
     }
     if (take(in) >= 208) {
         damage_legs(in, call);
     }
+}
+
+static inline void shaped_fix(struct input *in, struct call *call) {
+    shaped_order(in, call);
+    shaped_message(in, call);
 }
 
 /*
@@ -574,6 +578,7 @@ static inline void shaped_write(struct input *in, struct call *call) {
 static form *const shaped_forms[ENTRIES] = {
     [READ_SYMBOL] = shaped_read,  [WRITE_SYMBOL] = shaped_write,
     [CHECK_ORDER] = shaped_order, [CHECK_ORDER_TALLIED] = shaped_order,
+    [CHECK_FIX] = shaped_fix,     [CHECK_FIX_TALLIED] = shaped_fix,
     [CHECK_QUOTE] = shaped_quote,
 };
 

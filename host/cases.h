@@ -1,6 +1,7 @@
 /*
- * The cases of the files in cases/: each order and quote, with the settings and market that it is
- * checked against, and the answer that its line has after "#=". Run at the top of the repository.
+ * The cases of the files in cases/: each order, message and quote, with the settings and market
+ * that it is checked against, and the answer that its line has after "#=". Run at the top of the
+ * repository.
  */
 #ifndef CASES_H
 #define CASES_H
@@ -22,7 +23,7 @@ static inline void print_case(void) {
     }
 }
 
-/* Holds an order or a quote to the answer, in the line's words. */
+/* Holds an order, a message or a quote to the answer, in the line's words. */
 typedef void hold_case(const struct request *request, const char *answer);
 
 /* What stands after "#=" and a blank. */
@@ -62,7 +63,7 @@ static inline void hold_file(const char *name, enum request_kind kind, hold_case
     case_now.file = NULL;
 }
 
-/* Holds every order, or every quote, of every file. */
+/* Holds every order, every message or every quote of every file. */
 static inline void hold_cases(enum request_kind kind, hold_case *hold) {
     glob_t files;
     expect(glob("cases/*.desk", 0, NULL, &files) == 0, "there are no cases");

@@ -1,23 +1,26 @@
 /*
- * The checks for a trading desk: reads orders and quotes, one to a line, and prints the library's
- * verdict on each in words. host/desk.help says how a line is written and what is printed.
+ * The checks for a trading desk: reads orders, messages and quotes, one to a line, and prints the
+ * library's verdict on each in words. host/desk.help says how a line is written and what is
+ * printed.
  *
  * No rule of the checks is here. What is said of a refusal beside its meaning is learnt by asking
  * the library again: of a leg by itself, at another price, with one field of the terms alone.
  */
-#define _POSIX_C_SOURCE 200809L /* for fstat and fileno */
+#define _POSIX_C_SOURCE 200809L /* for fstat, fileno and getline */
 
 #include "answers.h"
 #include "option_price_check.h"
+#include "order_in.h"
 #include "requests.h"
 
 #include <errno.h>
 #include <inttypes.h>
+#include <stdlib.h>
 #include <sys/stat.h>
 
 enum { EXIT_READ = 0, EXIT_UNREAD = 1, EXIT_TROUBLE = 2, EXIT_NOT_ACCEPTED = 3 };
 
-/* The orders or the quotes that were answered, counted. */
+/* The orders, those in messages among them, or the quotes that were answered, counted. */
 struct session {
     struct opc_tally tally;
     uint64_t given[COUNT(number_rows)]; /* how often, of each row's number */
@@ -29,7 +32,8 @@ struct desk {
     struct terms terms;
     struct session orders, quotes;
     uint64_t line_number;
-    bool all_accepted; /* every order, quote and set */
+    bool all_accepted; /* every order, message, quote and set */
+    bool is_awaited;   /* each answer, by whoever writes the lines */
 };
 
 /* ---- verdicts in words, and what settings and market are at fault ---- */
@@ -147,7 +151,7 @@ static void print_verdict(uint64_t number, const struct terms *terms) {
     }
 }
 
-/* ---- what of an order or a quote is at fault ---- */
+/* ---- what of an order, a message or a quote is at fault ---- */
 
 static uint64_t number_of_order(const struct opc_order *order) {
     return opc_answer_order(order, &first_terms.settings, &first_terms.market).number;
@@ -224,6 +228,15 @@ static void print_order_fault(const struct opc_order *order, uint64_t number) {
     }
 }
 
+/* What is at fault in the order of a message, where that is refused and not the message. */
+static void print_message_fault(const struct opc_fix *fix, uint64_t number) {
+    struct order_in in;
+    if (number >= OPC_BAD_LEG_COUNT && number <= OPC_BAD_PRICE) {
+        read_order_in(fix, &in);
+        print_order_fault(&in.order, number);
+    }
+}
+
 /* Whether a quote can have the price, asked with the next price on either side of it. */
 static bool is_quotable(const struct opc_quote *quote, uint64_t price) {
     struct opc_quote asked = *quote;
@@ -249,7 +262,7 @@ static void print_quote_fault(const struct opc_quote *quote, uint64_t number) {
     }
 }
 
-/* ---- orders and quotes ---- */
+/* ---- orders, messages and quotes ---- */
 
 static void print_session(const char *name, const struct session *session) {
     const struct opc_tally *tally = &session->tally;
@@ -274,28 +287,49 @@ static void note(struct desk *desk, struct session *session, uint64_t number) {
     }
 }
 
-static void answer_order(struct desk *desk, const struct opc_order *order) {
-    /* A full tally is printed, and the next one begins: no order goes unchecked for it. */
+/* A full tally is printed, and the next one begins: no order goes unchecked for it. */
+static void make_room(struct desk *desk) {
     if (desk->orders.tally.seen == OPC_MOST_TALLIED) {
         print_session("orders", &desk->orders);
         desk->orders = fresh_session;
     }
+}
+
+/* The answer's line, up to what is at fault; says whether it is a refusal. */
+static bool print_answer(struct desk *desk, const char *what, const struct opc_answer *answer) {
+    note(desk, &desk->orders, answer->number);
+    printf("%" PRIu64 ": %s: ", desk->line_number, what);
+    print_verdict(answer->number, &desk->terms);
+    if (opc_outcome_of(answer->number) == OPC_OUTCOME_REFUSED) {
+        return true;
+    }
+    printf("; class %s, shape %s, %" PRIu64 " %s", class_name(answer->class_),
+           shape_name(answer->shape), answer->pairings,
+           answer->pairings == 1 ? "pairing" : "pairings");
+    return false;
+}
+
+static void answer_order(struct desk *desk, const struct opc_order *order) {
+    make_room(desk);
     struct opc_answer answer = opc_answer_order_tallied(order, &desk->terms.settings,
                                                         &desk->terms.market, &desk->orders.tally);
-    note(desk, &desk->orders, answer.number);
-    printf("%" PRIu64 ": order: ", desk->line_number);
-    print_verdict(answer.number, &desk->terms);
-    if (opc_outcome_of(answer.number) == OPC_OUTCOME_REFUSED) {
+    if (print_answer(desk, "order", &answer)) {
         print_order_fault(order, answer.number);
-    } else {
-        printf("; class %s, shape %s, %" PRIu64 " %s", class_name(answer.class_),
-               shape_name(answer.shape), answer.pairings,
-               answer.pairings == 1 ? "pairing" : "pairings");
     }
     printf("\n");
 }
 
-/* The library tallies orders alone; this does the same for a quote, without end. */
+static void answer_fix(struct desk *desk, const struct opc_fix *fix) {
+    make_room(desk);
+    struct opc_answer answer = opc_answer_fix_tallied(fix, &desk->terms.settings,
+                                                      &desk->terms.market, &desk->orders.tally);
+    if (print_answer(desk, "fix", &answer)) {
+        print_message_fault(fix, answer.number);
+    }
+    printf("\n");
+}
+
+/* The library tallies orders and messages alone; this does the same for a quote, without end. */
 static void tally_quote(struct opc_tally *tally, enum opc_outcome outcome) {
     tally->seen++;
     tally->refused += outcome == OPC_OUTCOME_REFUSED;
@@ -379,6 +413,9 @@ static void answer_request(struct desk *desk, const struct request *request) {
     case REQUEST_ORDER:
         answer_order(desk, &request->order);
         break;
+    case REQUEST_FIX:
+        answer_fix(desk, &request->fix);
+        break;
     case REQUEST_QUOTE:
         answer_quote(desk, &request->quote);
         break;
@@ -403,73 +440,111 @@ static bool is_regular(FILE *file) {
     return fstat(fileno(file), &about) == 0 && S_ISREG(about.st_mode);
 }
 
-/* Answers every line of the file, and gives the exit status. */
-static int answer_file(FILE *file, const char *name, bool is_strict) {
-    struct desk desk = {.terms = first_terms, .all_accepted = true};
+/* Whoever writes into a pipe or a terminal may wait for an answer to send the next line. */
+static void end_answer(const struct desk *desk) {
+    if (desk->is_awaited) {
+        fflush(stdout);
+    }
+}
+
+/* Answers every line of the file; false if one could not be read. */
+static bool answer_lines(struct desk *desk, FILE *file, const char *name) {
     struct line line;
     struct request request;
-    int status = EXIT_READ;
-    /* Whoever writes into a pipe or a terminal may wait for an answer to send the next line. */
-    bool is_awaited = !is_regular(file);
+    bool are_read = true;
     while (next_line(file, &line)) {
-        desk.line_number++;
-        if (read_request(&line, &desk.terms, &request)) {
-            answer_request(&desk, &request);
+        desk->line_number++;
+        if (read_request(&line, &desk->terms, &request)) {
+            answer_request(desk, &request);
         } else {
-            /* So that answers and messages keep their sequence where they share a file. */
+            /* So that answers and faults keep their sequence where they share a file. */
             fflush(stdout);
-            fprintf(stderr, "%s:%" PRIu64 ":%zu: %s %s\n", name, desk.line_number,
+            fprintf(stderr, "%s:%" PRIu64 ":%zu: %s %s\n", name, desk->line_number,
                     line.fault_at + 1, line.field, line.trouble);
-            status = EXIT_UNREAD;
+            are_read = false;
         }
-        if (is_awaited) {
-            fflush(stdout);
-        }
+        end_answer(desk);
     }
-    if (ferror(file)) {
+    return are_read;
+}
+
+/* Answers every line of the file as a message, of any bytes and any length, with no flags. */
+static void answer_messages(struct desk *desk, FILE *file) {
+    char *line = NULL;
+    size_t room = 0;
+    for (ssize_t len = getline(&line, &room, file); len > 0; len = getline(&line, &room, file)) {
+        const struct opc_fix fix = {.message = (const uint8_t *)line,
+                                    .message_len = (size_t)len - (line[len - 1] == '\n')};
+        desk->line_number++;
+        answer_fix(desk, &fix);
+        end_answer(desk);
+    }
+    free(line);
+}
+
+struct options {
+    bool is_strict;
+    bool is_fix; /* every line of the file is a message */
+};
+
+/* Answers a file, and gives the exit status. */
+static int answer_file(FILE *file, const char *name, const struct options *options) {
+    struct desk desk = {
+        .terms = first_terms, .all_accepted = true, .is_awaited = !is_regular(file)};
+    bool are_read = true;
+    if (options->is_fix) {
+        answer_messages(&desk, file);
+    } else {
+        are_read = answer_lines(&desk, file, name);
+    }
+    if (!feof(file)) {
         fprintf(stderr, "desk: %s: %s\n", name, strerror(errno));
         return EXIT_TROUBLE;
     }
     print_session("orders", &desk.orders);
     print_session("quotes", &desk.quotes);
-    return status == EXIT_READ && is_strict && !desk.all_accepted ? EXIT_NOT_ACCEPTED : status;
+    return !are_read                                  ? EXIT_UNREAD
+           : options->is_strict && !desk.all_accepted ? EXIT_NOT_ACCEPTED
+                                                      : EXIT_READ;
 }
 
-static int answer_named(const char *name, bool is_strict) {
+static int answer_named(const char *name, const struct options *options) {
     FILE *file = fopen(name, "r");
     if (file == NULL) {
         fprintf(stderr, "desk: %s: %s\n", name, strerror(errno));
         return EXIT_TROUBLE;
     }
-    int status = answer_file(file, name, is_strict);
+    int status = answer_file(file, name, options);
     fclose(file);
     return status;
 }
 
 static int say_usage(void) {
-    fprintf(stderr, "usage: host/desk [--strict] [--] [FILE]\n"
+    fprintf(stderr, "usage: host/desk [--strict] [--fix] [--] [FILE]\n"
                     "       host/desk --help\n");
     return EXIT_TROUBLE;
 }
 
 int main(int argc, char **argv) {
-    bool is_strict = false;
+    struct options options = {.is_strict = false};
     int i = 1;
     for (; i < argc && argv[i][0] == '-'; i++) {
         if (strcmp(argv[i], "--") == 0) {
             i++;
             break;
         }
-        if (strcmp(argv[i], "--strict") != 0) {
+        if (strcmp(argv[i], "--strict") == 0) {
+            options.is_strict = true;
+        } else if (strcmp(argv[i], "--fix") == 0) {
+            options.is_fix = true;
+        } else {
             return say_usage();
         }
-        is_strict = true;
     }
     if (argc - i > 1) {
         return say_usage();
     }
-    int status =
-        i < argc ? answer_named(argv[i], is_strict) : answer_file(stdin, "stdin", is_strict);
+    int status = i < argc ? answer_named(argv[i], &options) : answer_file(stdin, "stdin", &options);
     if (fflush(stdout) != 0 || ferror(stdout)) {
         fprintf(stderr, "desk: standard output: %s\n", strerror(errno));
         return EXIT_TROUBLE;

@@ -1,9 +1,12 @@
 /*
  * Calls the entry that its argument names once for each of many valid inputs, all checks switched
  * on, and prints a line for each call: legs and kind of order or quote. The order check gets orders
- * of 1, 2, 4, 8 and 16 legs, the tallied check those of 1 and 16 legs. host/measure runs this under
- * callgrind, which counts the instructions of each call.
+ * of 1, 2, 4, 8 and 16 legs, the check of messages the messages of those of 1, 4 and 16 legs, the
+ * tallied checks those of 1 and 16 legs. With a second argument, "lengths", the check of messages
+ * gets ones with more and more fields to step over, and a line has the bytes in place of the legs.
+ * host/measure runs this under callgrind, which counts the instructions of each call.
  */
+#include "made_messages.h"
 #include "made_orders.h"
 #include "made_quotes.h"
 #include "option_price_check.h"
@@ -12,8 +15,8 @@
 
 #define RANDOM_INPUTS 40
 
-/* Which of the two order checks is called. */
-static bool tallied;
+/* Which check is called for an order: that of orders or of messages, with a tally or without. */
+static bool in_message, tallied;
 
 /* A market in which checks 25 and 26 have a reference and check 21 an underlying. */
 static const struct opc_market quoted = {.phase = OPC_PHASE_OPEN,
@@ -82,12 +85,26 @@ static void reverse_legs(struct made_order *m) {
     }
 }
 
-static uint64_t check(const struct made_order *m, const char *kind, const char *sequence) {
+static struct opc_answer answer_order(const struct made_order *m) {
     struct opc_order order = lend(m);
     struct opc_tally tally = OPC_FRESH_TALLY;
-    struct opc_answer a = tallied
-                              ? opc_answer_order_tallied(&order, &m->settings, &m->market, &tally)
-                              : opc_answer_order(&order, &m->settings, &m->market);
+    return tallied ? opc_answer_order_tallied(&order, &m->settings, &m->market, &tally)
+                   : opc_answer_order(&order, &m->settings, &m->market);
+}
+
+/* The message with the fewest fields. */
+static struct opc_answer answer_message(const struct made_order *m) {
+    static struct made_message body, message;
+    struct opc_tally tally = OPC_FRESH_TALLY;
+    write_body(&body, m);
+    frame(&message, &body);
+    struct opc_fix fix = lend_fix(&message, m);
+    return tallied ? opc_answer_fix_tallied(&fix, &m->settings, &m->market, &tally)
+                   : opc_answer_fix(&fix, &m->settings, &m->market);
+}
+
+static uint64_t check(const struct made_order *m, const char *kind, const char *sequence) {
+    struct opc_answer a = in_message ? answer_message(m) : answer_order(m);
     printf("%zu %s%s\n", legs_of(m), kind, sequence);
     return a.number;
 }
@@ -138,6 +155,34 @@ static void check_sizes(const size_t *sizes, size_t len) {
     }
 }
 
+/* The order's message with so many bytes of a field that is stepped over. */
+static void check_length(const struct made_order *m, const char *field, size_t bytes,
+                         const char *kind) {
+    static struct made_message body, message;
+    write_body(&body, m);
+    add_repeated(&body, field, bytes);
+    frame(&message, &body);
+    struct opc_fix fix = lend_fix(&message, m);
+    uint64_t number = opc_answer_fix(&fix, &m->settings, &m->market).number;
+    printf("%zu %s\n", message.len, kind);
+    expect(number == OPC_ACCEPTED, kind, legs_of(m));
+}
+
+/* A usual field, and the shortest that there is, in a message of one leg. */
+static void check_lengths(void) {
+    struct made_order m = no_legs();
+    m.price = 1200;
+    m.market = quoted;
+    typical(&m, 1);
+    check_length(&m, "", 0, "none");
+    for (size_t bytes = 1000; bytes <= 1000000; bytes *= 10) {
+        check_length(&m, "58=some text|", bytes, "58=some text");
+    }
+    for (size_t bytes = 1000; bytes <= 1000000; bytes *= 10) {
+        check_length(&m, "1=|", bytes, "1=");
+    }
+}
+
 static uint64_t check_quote(const struct made_quote *q, const char *kind) {
     struct opc_quote quote = lend_quote(q);
     struct opc_quote_answer a = opc_answer_quote(&quote, &q->settings, &q->market);
@@ -174,18 +219,35 @@ static void check_quotes(void) {
 }
 
 int main(int argc, char **argv) {
-    static const size_t all[] = {1, 2, 4, 8, 16}, least_and_most[] = {1, 16};
-    const char *entry = argc == 2 ? argv[1] : "";
-    if (strcmp(entry, "opc_check_order") == 0) {
-        check_sizes(all, COUNT(all));
-    } else if (strcmp(entry, "opc_check_order_tallied") == 0) {
-        tallied = true;
-        check_sizes(least_and_most, COUNT(least_and_most));
-    } else if (strcmp(entry, "opc_check_quote") == 0) {
+    static const size_t all[] = {1, 2, 4, 8, 16}, some[] = {1, 4, 16}, least_and_most[] = {1, 16};
+    static const struct {
+        const char *name;
+        bool in_message, tallied;
+        const size_t *sizes;
+        size_t len;
+    } entries[] = {
+        {"opc_check_order", false, false, all, COUNT(all)},
+        {"opc_check_order_tallied", false, true, least_and_most, COUNT(least_and_most)},
+        {"opc_check_fix", true, false, some, COUNT(some)},
+        {"opc_check_fix_tallied", true, true, least_and_most, COUNT(least_and_most)},
+    };
+    const char *entry = argc >= 2 ? argv[1] : "", *what = argc == 3 ? argv[2] : "";
+    if (strcmp(entry, "opc_check_quote") == 0) {
         check_quotes();
-    } else {
-        fprintf(stderr, "instructions: the argument names no entry that is measured\n");
-        return 2;
+        return 0;
     }
-    return 0;
+    if (strcmp(entry, "opc_check_fix") == 0 && strcmp(what, "lengths") == 0) {
+        check_lengths();
+        return 0;
+    }
+    for (size_t i = 0; i < COUNT(entries); i++) {
+        if (strcmp(entry, entries[i].name) == 0) {
+            in_message = entries[i].in_message;
+            tallied = entries[i].tallied;
+            check_sizes(entries[i].sizes, entries[i].len);
+            return 0;
+        }
+    }
+    fprintf(stderr, "instructions: the argument names no entry that is measured\n");
+    return 2;
 }

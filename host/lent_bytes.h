@@ -17,30 +17,37 @@
 #include <unistd.h>
 
 #define GUARD 16
-#define LARGEST (GUARD + MADE_LEGS * OPC_SYMBOL_LENGTH)
 
-/* The first byte of a page that may not be touched, after one that may. */
-static inline uint8_t *forbidden_page(void) {
+/* Bytes lent up to a page that may not be touched, with a copy of them and of the guard before. */
+struct lent_bytes {
+    uint8_t *end;
+    size_t room;
+    size_t len;
+    uint8_t *before;
+};
+
+/* Room for so many bytes before a forbidden page, and for their copy. */
+static inline void make_room(struct lent_bytes *lent, size_t room) {
     size_t page = (size_t)sysconf(_SC_PAGESIZE);
     int private_memory = MAP_PRIVATE | MAP_ANONYMOUS;
-    uint8_t *pages = mmap(NULL, 2 * page, PROT_READ | PROT_WRITE, private_memory, -1, 0);
-    if (pages == MAP_FAILED || mprotect(pages + page, page, PROT_NONE) != 0) {
+    room = (room + page - 1) / page * page;
+    uint8_t *pages = mmap(NULL, room + page, PROT_READ | PROT_WRITE, private_memory, -1, 0);
+    uint8_t *before = realloc(lent->before, room);
+    if (pages == MAP_FAILED || before == NULL || mprotect(pages + room, page, PROT_NONE) != 0) {
         fprintf(stderr, "%s: no forbidden page: %s\n", test_name, strerror(errno));
         exit(2);
     }
-    return pages + page;
+    if (lent->end != NULL) {
+        munmap(lent->end - lent->room, lent->room + page);
+    }
+    lent->end = pages + room;
+    lent->room = room;
+    lent->before = before;
 }
 
-/* Bytes lent up to a forbidden page, with a copy of them and of the guard before them. */
-struct lent_bytes {
-    uint8_t *end;
-    size_t len;
-    uint8_t before[LARGEST];
-};
-
 static inline const uint8_t *lend_bytes(struct lent_bytes *lent, const uint8_t *bytes, size_t len) {
-    if (lent->end == NULL) {
-        lent->end = forbidden_page();
+    if (lent->room < GUARD + len) {
+        make_room(lent, GUARD + len);
     }
     lent->len = len;
     memset(lent->before, (int)below(256), GUARD);
@@ -56,7 +63,7 @@ static inline bool are_kept(const struct lent_bytes *lent) {
 /* The first `len` numbers of a struct, and a 0 beyond them; NULL where there are none. */
 static inline const uint64_t *lend_numbers(struct lent_bytes *lent, const void *from, size_t size,
                                            size_t len) {
-    uint8_t bytes[LARGEST] = {0};
+    uint8_t bytes[sizeof(struct opc_settings) + sizeof(uint64_t)] = {0};
     memcpy(bytes, from, size);
     const void *at = lend_bytes(lent, bytes, len * sizeof(uint64_t));
     return len == 0 ? NULL : at;

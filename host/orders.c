@@ -2,11 +2,10 @@
  * An example host: makes orders of their parts, checks them through the proved library, which
  * counts them in a tally, and prints what it answers.
  */
-#include "answers.h"
+#include "columns.h"
 #include "option_price_check.h"
 
 #include <inttypes.h>
-#include <stdbool.h>
 #include <stdio.h>
 #include <stdlib.h>
 
@@ -101,20 +100,6 @@ static void print_order(const struct example *e) {
     printf("%*s", width, price);
 }
 
-/* Of a refused order there is no class, shape or number of pairings. */
-static void print_answer(const struct opc_answer *a, const struct opc_tally *t) {
-    bool refused = opc_outcome_of(a->number) == OPC_OUTCOME_REFUSED;
-    printf("  %2" PRIu64 " %-17s", a->number, number_name(a->number));
-    if (refused) {
-        printf("  %-12s  %-8s  %8s", "-", "-", "-");
-    } else {
-        printf("  %-12s  %-8s  %8" PRIu64, class_name(a->class_), shape_name(a->shape),
-               a->pairings);
-    }
-    printf("  %7" PRIu64 "  %7" PRIu64 "  %8" PRIu64 "  %8" PRIu64 "\n", t->seen, t->refused,
-           t->accepted, t->rejected);
-}
-
 /* Each check is lent the tally that the one before left. */
 static void check_all(const struct example *examples, size_t len, struct opc_tally tally) {
     const struct opc_settings settings = OPC_EXAMPLE_SETTINGS;
@@ -124,16 +109,17 @@ static void check_all(const struct example *examples, size_t len, struct opc_tal
         struct opc_order order = order_of(&examples[i], &bytes);
         struct opc_answer answer = opc_answer_order_tallied(&order, &settings, &market, &tally);
         print_order(&examples[i]);
-        print_answer(&answer, &tally);
+        print_columns(&answer, &tally);
+        printf("\n");
     }
 }
 
 int main(void) {
     const struct opc_tally fresh = OPC_FRESH_TALLY;
     printf("Orders, and the tally after each (root XYZ, 15 January 2027, dollars)\n");
-    printf("%-20s %-35s%6s  %-20s  %-12s  %-8s  %8s  %7s  %7s  %8s  %8s\n", "order", "legs",
-           "price", "number", "class", "shape", "pairings", "seen", "refused", "accepted",
-           "rejected");
+    printf("%-20s %-35s%6s", "order", "legs", "price");
+    print_heading();
+    printf("\n");
     check_all(session, COUNT(session), fresh);
     check_all(last_checks, COUNT(last_checks), nearly_full);
     return EXIT_SUCCESS;

@@ -99,25 +99,28 @@ static inline void put_value(struct terms *terms, const struct settable *settabl
 enum request_kind {
     REQUEST_NOTHING, /* an empty line, or a comment alone */
     REQUEST_ORDER,
+    REQUEST_FIX,
     REQUEST_QUOTE,
     REQUEST_SET,
     REQUEST_RESET,
     REQUEST_SHOW
 };
 
-/* Order and quote point into the request, which so is not to be copied. */
+/* Order, message and quote point into the request, which so is not to be copied. */
 struct request {
     enum request_kind kind;
     struct opc_order order;
+    struct opc_fix fix;
     struct opc_quote quote;
     struct terms terms;                           /* that hold after the line */
     const struct settable *set[COUNT(settables)]; /* by the line, in its sequence */
     size_t set_len;
     uint8_t symbols[LEGS_READ * OPC_SYMBOL_LENGTH]; /* of the legs; of a quote the first */
     uint8_t counts[LEGS_READ * OPC_COUNT_LENGTH];
+    uint8_t message[LINE_LENGTH];
 };
 
-/* ---- the fields of orders and quotes ---- */
+/* ---- the fields of orders, messages and quotes ---- */
 
 static inline bool take_dollars(struct line *line, const char *name, uint64_t *mills) {
     struct field field;
@@ -240,10 +243,15 @@ static inline bool take_series(struct line *line, uint8_t out[OPC_SYMBOL_LENGTH]
     return true;
 }
 
-/* Reads words to the line's end, and sets the flag of each, which must be one of the names. */
+/* Whether a word comes next: no other field begins with a small letter. */
+static inline bool is_word(struct field field) {
+    return field.len > 0 && field.text[0] >= 'a' && field.text[0] <= 'z';
+}
+
+/* Reads the words that come next, and sets the flag of each, which must be one of the names. */
 static inline bool take_words(struct line *line, const char *const names[], uint64_t *const flags[],
                               size_t len) {
-    for (struct field word = next_field(line); word.len > 0; word = next_field(line)) {
+    for (struct field word = next_field(line); is_word(word); word = next_field(line)) {
         size_t i = 0;
         while (i < len && !is(word, names[i])) {
             i++;
@@ -258,6 +266,28 @@ static inline bool take_words(struct line *line, const char *const names[], uint
         pass(line, word);
     }
     return true;
+}
+
+/*
+ * The message: all after one blank to the line's end, or to the blanks before a comment. A '|' is
+ * byte 1.
+ */
+static inline void take_message(struct line *line, struct request *request) {
+    size_t start = line->at + (line->at < line->len && is_blank(line->text[line->at]));
+    size_t end = start;
+    while (end < line->len &&
+           (line->text[end] != '#' || (end > start && !is_blank(line->text[end - 1])))) {
+        end++;
+    }
+    while (end < line->len && end > start && is_blank(line->text[end - 1])) {
+        end--;
+    }
+    for (size_t i = start; i < end; i++) {
+        char c = line->text[i];
+        request->message[i - start] = c == '|' ? 1 : (uint8_t)c;
+    }
+    request->fix.message = request->message;
+    request->fix.message_len = end - start;
 }
 
 /* ---- the kinds of lines ---- */
@@ -279,7 +309,7 @@ static inline bool take_leg(struct line *line, struct request *request, size_t l
 static inline bool take_legs(struct line *line, struct request *request, size_t *len) {
     struct field next = next_field(line);
     *len = 0;
-    if (next.len == 0 || (next.text[0] >= 'a' && next.text[0] <= 'z')) {
+    if (next.len == 0 || is_word(next)) {
         return true;
     }
     while (take_leg(line, request, *len)) {
@@ -300,13 +330,25 @@ static inline bool read_order(struct line *line, struct request *request) {
     size_t legs;
     *order = (struct opc_order){.kind = OPC_KIND_LIMIT};
     if (!take_price(line, &order->price) || !take_legs(line, request, &legs) ||
-        !take_words(line, words, flags, COUNT(words))) {
+        !take_words(line, words, flags, COUNT(words)) || !is_at_end(line)) {
         return false;
     }
     order->symbols = request->symbols;
     order->symbols_len = legs * OPC_SYMBOL_LENGTH;
     order->counts = request->counts;
     order->counts_len = legs * OPC_COUNT_LENGTH;
+    return true;
+}
+
+static inline bool read_fix(struct line *line, struct request *request) {
+    static const char *const words[] = {"stop", "manual", "opening"};
+    struct opc_fix *fix = &request->fix;
+    uint64_t *const flags[] = {&fix->stop, &fix->manual, &fix->opening};
+    *fix = (struct opc_fix){.message_len = 0};
+    if (!take_words(line, words, flags, COUNT(words))) {
+        return false;
+    }
+    take_message(line, request);
     return true;
 }
 
@@ -317,7 +359,7 @@ static inline bool read_quote(struct line *line, struct request *request) {
     *quote = (struct opc_quote){.symbol = request->symbols, .symbol_len = OPC_SYMBOL_LENGTH};
     return take_series(line, request->symbols) && take_dollars(line, "bid", &quote->bid) &&
            take_dollars(line, "offer", &quote->offer) &&
-           take_words(line, words, flags, COUNT(words));
+           take_words(line, words, flags, COUNT(words)) && is_at_end(line);
 }
 
 /* Gives what is wrong with the value, or NULL. */
@@ -402,9 +444,9 @@ static inline bool read_request(struct line *line, const struct terms *now,
         enum request_kind kind;
         bool (*read)(struct line *line, struct request *request);
     } kinds[] = {
-        {"order", REQUEST_ORDER, read_order}, {"quote", REQUEST_QUOTE, read_quote},
-        {"set", REQUEST_SET, read_set},       {"reset", REQUEST_RESET, read_reset},
-        {"show", REQUEST_SHOW, read_show},
+        {"order", REQUEST_ORDER, read_order}, {"fix", REQUEST_FIX, read_fix},
+        {"quote", REQUEST_QUOTE, read_quote}, {"set", REQUEST_SET, read_set},
+        {"reset", REQUEST_RESET, read_reset}, {"show", REQUEST_SHOW, read_show},
     };
     request->kind = REQUEST_NOTHING;
     request->terms = *now;
@@ -422,7 +464,7 @@ static inline bool read_request(struct line *line, const struct terms *now,
             return kinds[i].read(line, request);
         }
     }
-    return fault(line, word, "line", "begins with none of order, quote, set, reset, show");
+    return fault(line, word, "line", "begins with none of order, fix, quote, set, reset, show");
 }
 
 #endif

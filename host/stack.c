@@ -7,6 +7,7 @@
  * address, and everything below that was written to.
  */
 #define _XOPEN_SOURCE 700
+#include "made_messages.h"
 #include "made_orders.h"
 #include "made_quotes.h"
 #include "option_price_check.h"
@@ -18,6 +19,7 @@
 #define STACK_WORDS (STACK_BYTES / sizeof(uint64_t))
 #define LIMIT 16384
 #define INPUTS_PER_KIND 10000
+#define LONGEST_MESSAGE 1000000
 
 static _Alignas(64) uint64_t stack[STACK_WORDS];
 static uint64_t paint[STACK_WORDS];
@@ -31,6 +33,8 @@ static size_t buffer_len;
 static uint64_t number;
 static struct opc_answer answer;
 static struct opc_tally tally;
+static struct made_message body, message;
+static struct opc_fix fix;
 static struct made_quote made_quote;
 static struct opc_quote_answer quote_answer;
 
@@ -53,6 +57,17 @@ static void call_check_tallied(void) {
     answer.number = opc_check_order_tallied(EACH_OF_ORDER(&made), SLICES_OF(&made), &answer.class_,
                                             &answer.shape, &answer.pairings, &tally.seen,
                                             &tally.refused, &tally.accepted, &tally.rejected);
+}
+
+static void call_check_fix(void) {
+    answer.number = opc_check_fix(EACH_OF_FIX(&fix), SLICES_OF(&made), &answer.class_,
+                                  &answer.shape, &answer.pairings);
+}
+
+static void call_check_fix_tallied(void) {
+    answer.number = opc_check_fix_tallied(EACH_OF_FIX(&fix), SLICES_OF(&made), &answer.class_,
+                                          &answer.shape, &answer.pairings, &tally.seen,
+                                          &tally.refused, &tally.accepted, &tally.rejected);
 }
 
 static void call_check_quote(void) {
@@ -147,8 +162,8 @@ static void check_made(void) { on_painted_stack(call_check); }
 
 static size_t check_inputs(void) { return order_inputs(check_made); }
 
-/* With a tally that counts, and now and then with one that does not. */
-static void check_made_tallied(void) {
+/* A tally that counts, and now and then one that does not. */
+static void make_tally(void) {
     tally.refused = below(333334);
     tally.accepted = below(333334);
     tally.rejected = below(333334);
@@ -156,10 +171,59 @@ static void check_made_tallied(void) {
     if (one_in(8)) {
         tally.seen = next_random() >> below(64);
     }
+}
+
+static void check_made_tallied(void) {
+    make_tally();
     on_painted_stack(call_check_tallied);
 }
 
 static size_t tallied_inputs(void) { return order_inputs(check_made_tallied); }
+
+/* The order's message; now and then a damaged one, its length and sum right or as they were. */
+static void make_message(void) {
+    random_body(&body, &made);
+    if (one_in(4)) {
+        damage_message(&body);
+    }
+    frame(&message, &body);
+    if (one_in(8)) {
+        damage_message(&message);
+    }
+    fix = lend_fix(&message, &made);
+}
+
+static void check_made_fix(void) {
+    make_message();
+    on_painted_stack(call_check_fix);
+}
+
+static void check_made_fix_tallied(void) {
+    make_message();
+    make_tally();
+    on_painted_stack(call_check_fix_tallied);
+}
+
+/* The messages of orders, then long ones. */
+static size_t message_inputs(void (*call_made)(void), void (*call)(void)) {
+    size_t inputs = order_inputs(call_made);
+    made = random_order(OPC_MOST_LEGS);
+    tally = (struct opc_tally){.seen = 0};
+    for (size_t bytes = 1000; bytes <= LONGEST_MESSAGE; bytes *= 10, inputs++) {
+        write_body(&body, &made);
+        add_repeated(&body, "58=some text|", bytes);
+        frame(&message, &body);
+        fix = lend_fix(&message, &made);
+        on_painted_stack(call);
+    }
+    return inputs;
+}
+
+static size_t fix_inputs(void) { return message_inputs(check_made_fix, call_check_fix); }
+
+static size_t fix_tallied_inputs(void) {
+    return message_inputs(check_made_fix_tallied, call_check_fix_tallied);
+}
 
 /* Valid quotes, then each kind of damage, alone and upon another. */
 static size_t quote_inputs(void) {
@@ -188,6 +252,7 @@ int main(void) {
     } entries[] = {
         {"opc_read_symbol", read_inputs},  {"opc_write_symbol", write_inputs},
         {"opc_check_order", check_inputs}, {"opc_check_order_tallied", tallied_inputs},
+        {"opc_check_fix", fix_inputs},     {"opc_check_fix_tallied", fix_tallied_inputs},
         {"opc_check_quote", quote_inputs},
     };
     bool within = true;

@@ -21,9 +21,12 @@ struct slice {
     size_t len;
 };
 
-/* What an entry was given last; of a quote, bid, offer and resting are the first three terms. */
+/*
+ * What an entry was given last; of a message its flags, and of a quote bid, offer and resting, are
+ * the first three terms.
+ */
 static struct {
-    struct slice symbols, counts, settings, market;
+    struct slice symbols, counts, message, settings, market;
     uint64_t terms[TERMS];
     struct opc_tally tally;
 } given;
@@ -38,21 +41,40 @@ static struct {
 /* The values are arbitrary: `what` says all that there is to say of a failure. */
 static void print_tried(void) {}
 
+/* Keeps what every check is given last. */
+static void take_terms(const uint64_t *settings, size_t settings_len, const uint64_t *market,
+                       size_t market_len, const uint64_t terms[TERMS]) {
+    given.settings = (struct slice){settings, settings_len};
+    given.market = (struct slice){market, market_len};
+    memcpy(given.terms, terms, sizeof given.terms);
+}
+
+static uint64_t give_answer(uint64_t *class_, uint64_t *shape, uint64_t *pairings) {
+    *class_ = told.answer.class_;
+    *shape = told.answer.shape;
+    *pairings = told.answer.pairings;
+    return told.answer.number;
+}
+
+static void exchange_tally(uint64_t *seen, uint64_t *refused, uint64_t *accepted,
+                           uint64_t *rejected) {
+    given.tally = (struct opc_tally){*seen, *refused, *accepted, *rejected};
+    *seen = told.tally.seen;
+    *refused = told.tally.refused;
+    *accepted = told.tally.accepted;
+    *rejected = told.tally.rejected;
+}
+
 uint64_t opc_check_order(const uint8_t *symbols, size_t symbols_len, const uint8_t *counts,
                          size_t counts_len, int64_t price, uint64_t kind, uint64_t stop,
                          uint64_t manual, uint64_t opening, const uint64_t *settings,
                          size_t settings_len, const uint64_t *market, size_t market_len,
                          uint64_t *class_, uint64_t *shape, uint64_t *pairings) {
+    const uint64_t terms[TERMS] = {(uint64_t)price, kind, stop, manual, opening};
     given.symbols = (struct slice){symbols, symbols_len};
     given.counts = (struct slice){counts, counts_len};
-    given.settings = (struct slice){settings, settings_len};
-    given.market = (struct slice){market, market_len};
-    const uint64_t terms[TERMS] = {(uint64_t)price, kind, stop, manual, opening};
-    memcpy(given.terms, terms, sizeof terms);
-    *class_ = told.answer.class_;
-    *shape = told.answer.shape;
-    *pairings = told.answer.pairings;
-    return told.answer.number;
+    take_terms(settings, settings_len, market, market_len, terms);
+    return give_answer(class_, shape, pairings);
 }
 
 uint64_t opc_check_order_tallied(const uint8_t *symbols, size_t symbols_len, const uint8_t *counts,
@@ -62,24 +84,39 @@ uint64_t opc_check_order_tallied(const uint8_t *symbols, size_t symbols_len, con
                                  uint64_t *class_, uint64_t *shape, uint64_t *pairings,
                                  uint64_t *seen, uint64_t *refused, uint64_t *accepted,
                                  uint64_t *rejected) {
-    given.tally = (struct opc_tally){*seen, *refused, *accepted, *rejected};
-    *seen = told.tally.seen;
-    *refused = told.tally.refused;
-    *accepted = told.tally.accepted;
-    *rejected = told.tally.rejected;
+    exchange_tally(seen, refused, accepted, rejected);
     return opc_check_order(symbols, symbols_len, counts, counts_len, price, kind, stop, manual,
                            opening, settings, settings_len, market, market_len, class_, shape,
                            pairings);
 }
 
+uint64_t opc_check_fix(const uint8_t *message, size_t message_len, uint64_t stop, uint64_t manual,
+                       uint64_t opening, const uint64_t *settings, size_t settings_len,
+                       const uint64_t *market, size_t market_len, uint64_t *class_, uint64_t *shape,
+                       uint64_t *pairings) {
+    const uint64_t terms[TERMS] = {stop, manual, opening};
+    given.message = (struct slice){message, message_len};
+    take_terms(settings, settings_len, market, market_len, terms);
+    return give_answer(class_, shape, pairings);
+}
+
+uint64_t opc_check_fix_tallied(const uint8_t *message, size_t message_len, uint64_t stop,
+                               uint64_t manual, uint64_t opening, const uint64_t *settings,
+                               size_t settings_len, const uint64_t *market, size_t market_len,
+                               uint64_t *class_, uint64_t *shape, uint64_t *pairings,
+                               uint64_t *seen, uint64_t *refused, uint64_t *accepted,
+                               uint64_t *rejected) {
+    exchange_tally(seen, refused, accepted, rejected);
+    return opc_check_fix(message, message_len, stop, manual, opening, settings, settings_len,
+                         market, market_len, class_, shape, pairings);
+}
+
 uint64_t opc_check_quote(const uint8_t *symbol, size_t symbol_len, uint64_t bid, uint64_t offer,
                          uint64_t resting, const uint64_t *settings, size_t settings_len,
                          const uint64_t *market, size_t market_len, uint64_t *cancel) {
-    given.symbols = (struct slice){symbol, symbol_len};
-    given.settings = (struct slice){settings, settings_len};
-    given.market = (struct slice){market, market_len};
     const uint64_t terms[TERMS] = {bid, offer, resting};
-    memcpy(given.terms, terms, sizeof terms);
+    given.symbols = (struct slice){symbol, symbol_len};
+    take_terms(settings, settings_len, market, market_len, terms);
     *cancel = told.quote.cancel;
     return told.quote.number;
 }
@@ -146,18 +183,57 @@ static void test_order_wrapper(void) {
     expect_order_arrived(&answer);
 }
 
+static struct opc_tally next_tally(void) {
+    return (struct opc_tally){.seen = next_value(),
+                              .refused = next_value(),
+                              .accepted = next_value(),
+                              .rejected = next_value()};
+}
+
+static void expect_tally_exchanged(const struct opc_tally *before, const struct opc_tally *after) {
+    expect(same_tally(&given.tally, before), "the tally as it arrives");
+    expect(same_tally(after, &told.tally), "the tally as it comes back");
+}
+
 static void test_tallied_wrapper(void) {
     make_sent();
-    struct opc_tally before = {.seen = next_value(),
-                               .refused = next_value(),
-                               .accepted = next_value(),
-                               .rejected = next_value()};
-    struct opc_tally tally = before;
+    struct opc_tally before = next_tally(), tally = before;
     struct opc_answer answer =
         opc_answer_order_tallied(&sent.order, &sent.settings, &sent.market, &tally);
     expect_order_arrived(&answer);
-    expect(same_tally(&given.tally, &before), "the tally as it arrives");
-    expect(same_tally(&tally, &told.tally), "the tally as it comes back");
+    expect_tally_exchanged(&before, &tally);
+}
+
+/* Values for a message, beside those of an order. */
+static struct opc_fix next_fix(void) {
+    make_sent();
+    return (struct opc_fix){.message = sent.symbols,
+                            .message_len = next_value(),
+                            .stop = sent.terms[0],
+                            .manual = sent.terms[1],
+                            .opening = sent.terms[2]};
+}
+
+static void expect_fix_arrived(const struct opc_fix *fix, const struct opc_answer *answer) {
+    const uint64_t terms[TERMS] = {fix->stop, fix->manual, fix->opening};
+    expect_slice(given.message, fix->message, fix->message_len, "the message");
+    expect(memcmp(given.terms, terms, sizeof given.terms) == 0, "the flags of a message");
+    expect_settings_and_market();
+    expect(same_answer(answer, &told.answer), "the answer to a message");
+}
+
+static void test_fix_wrapper(void) {
+    struct opc_fix fix = next_fix();
+    struct opc_answer answer = opc_answer_fix(&fix, &sent.settings, &sent.market);
+    expect_fix_arrived(&fix, &answer);
+}
+
+static void test_fix_tallied_wrapper(void) {
+    struct opc_fix fix = next_fix();
+    struct opc_tally before = next_tally(), tally = before;
+    struct opc_answer answer = opc_answer_fix_tallied(&fix, &sent.settings, &sent.market, &tally);
+    expect_fix_arrived(&fix, &answer);
+    expect_tally_exchanged(&before, &tally);
 }
 
 static void test_quote_wrapper(void) {
@@ -216,6 +292,8 @@ int main(void) {
     for (size_t i = 0; i < ROUNDS; i++) {
         test_order_wrapper();
         test_tallied_wrapper();
+        test_fix_wrapper();
+        test_fix_tallied_wrapper();
         test_quote_wrapper();
     }
     test_initializers();

@@ -7,6 +7,7 @@
  */
 #include "answers.h"
 #include "expect.h"
+#include "made_messages.h"
 #include "made_orders.h"
 #include "made_quotes.h"
 #include "option_price_check.h"
@@ -110,11 +111,44 @@ static uint64_t number_of_order(void) {
     return opc_answer_order(&order, &m.settings, &m.market).number;
 }
 
+/* One that adds up, or not. */
+static struct opc_tally some_tally(void) {
+    return (struct opc_tally){.seen = below(3), .accepted = below(3)};
+}
+
 static uint64_t number_tallied(void) {
     struct made_order m = some_order();
     struct opc_order order = lend(&m);
-    struct opc_tally tally = {.seen = below(3), .accepted = below(3)};
+    struct opc_tally tally = some_tally();
     return opc_answer_order_tallied(&order, &m.settings, &m.market, &tally).number;
+}
+
+/* An order's message, or a damaged one, its length and sum right or as they were. */
+static struct opc_fix some_fix(struct made_order *m) {
+    static struct made_message body, message;
+    *m = some_order();
+    random_body(&body, m);
+    if (one_in(3)) {
+        damage_message(&body);
+    }
+    frame(&message, &body);
+    if (one_in(8)) {
+        damage_message(&message);
+    }
+    return lend_fix(&message, m);
+}
+
+static uint64_t number_of_fix(void) {
+    struct made_order m;
+    struct opc_fix fix = some_fix(&m);
+    return opc_answer_fix(&fix, &m.settings, &m.market).number;
+}
+
+static uint64_t number_fix_tallied(void) {
+    struct made_order m;
+    struct opc_fix fix = some_fix(&m);
+    struct opc_tally tally = some_tally();
+    return opc_answer_fix_tallied(&fix, &m.settings, &m.market, &tally).number;
 }
 
 static uint64_t number_of_quote(void) {
@@ -133,6 +167,7 @@ static void test_numbers(void) {
     } entries[] = {
         {"opc_read_symbol", number_read},     {"opc_write_symbol", number_written},
         {"opc_check_order", number_of_order}, {"opc_check_order_tallied", number_tallied},
+        {"opc_check_fix", number_of_fix},     {"opc_check_fix_tallied", number_fix_tallied},
         {"opc_check_quote", number_of_quote},
     };
     uint64_t all = 0, rows = 0;

@@ -6,6 +6,7 @@
 #include "answers.h"
 #include "cases.h"
 #include "expect.h"
+#include "expect_answers.h"
 #include "expect_terms.h"
 #include "lent_bytes.h"
 #include "made_orders.h"
@@ -36,23 +37,6 @@ static struct opc_answer raw_answer(const struct opc_order *o, const struct lent
     a.number =
         opc_check_order(EACH_OF_ORDER(o), EACH_OF_TERMS(t), &a.class_, &a.shape, &a.pairings);
     return a;
-}
-
-static bool is_refusal(uint64_t number) { return opc_outcome_of(number) == OPC_OUTCOME_REFUSED; }
-
-/* What every answer holds to, whatever the order. */
-static void expect_limits(const struct opc_answer *a, size_t legs) {
-    expect(is_known(a->number), "a number that is not documented");
-    if (is_refusal(a->number)) {
-        expect(a->class_ == 0 && a->shape == 0 && a->pairings == 0, "a refusal with a value");
-        return;
-    }
-    expect(a->class_ <= OPC_CLASS_CREDIT, "a class that is not documented");
-    expect(a->shape <= OPC_SHAPE_BOX, "a shape that is not documented");
-    expect(a->pairings < legs, "more pairings than legs can make");
-    if (legs == 1) {
-        expect(a->class_ != OPC_CLASS_UNDETERMINED && a->shape == 0, "class or shape of one leg");
-    }
 }
 
 /*
@@ -118,29 +102,23 @@ static struct made_order order_of(const struct request *r) {
     return m;
 }
 
-static void expect_words(const struct made_order *made, const char *words) {
+static void expect_case(const struct made_order *made, const char *words) {
     struct opc_answer a = answer(made);
-    char text[128];
-    int len = snprintf(text, sizeof text, "%" PRIu64, a.number);
-    if (!is_refusal(a.number)) {
-        snprintf(text + len, sizeof text - (size_t)len, " %s, %s, %" PRIu64, class_name(a.class_),
-                 shape_name(a.shape), a.pairings);
-    }
-    expect(strcmp(text, words) == 0, "another answer than the case has");
+    expect_words(&a, words);
 }
 
 /* As it is; with the legs in another sequence, and with other values for each yes. */
 static void hold_order(const struct request *request, const char *words) {
     struct made_order m = order_of(request);
-    expect_words(&m, words);
+    expect_case(&m, words);
     shuffle_legs(&m);
-    expect_words(&m, words);
+    expect_case(&m, words);
     uint64_t *const flags[] = {&m.kind, &m.stop, &m.manual, &m.opening};
     for (size_t i = 0; i < COUNT(flags); i++) {
         change_yes(flags[i]);
     }
     change_flags(&m.settings, &m.market);
-    expect_words(&m, words);
+    expect_case(&m, words);
 }
 
 static void test_cases(void) { hold_cases(REQUEST_ORDER, hold_order); }

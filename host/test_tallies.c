@@ -7,6 +7,7 @@
 #include "expect.h"
 #include "lent_bytes.h"
 #include "made_orders.h"
+#include "made_tallies.h"
 #include "option_price_check.h"
 
 #define RANDOM_CASES 100000
@@ -62,12 +63,7 @@ static void expect_counted(const struct made_order *made, struct opc_tally *tall
     struct opc_answer untallied;
     untallied.number = opc_check_order(EACH_OF_ORDER(made), SLICES_OF(made), &untallied.class_,
                                        &untallied.shape, &untallied.pairings);
-    struct opc_tally expected = *tally;
-    uint64_t *const by_outcome[] = {[OPC_OUTCOME_ACCEPTED] = &expected.accepted,
-                                    [OPC_OUTCOME_REFUSED] = &expected.refused,
-                                    [OPC_OUTCOME_REJECTED] = &expected.rejected};
-    expected.seen++;
-    ++*by_outcome[opc_outcome_of(untallied.number)];
+    const struct opc_tally expected = counted(*tally, untallied.number);
     struct opc_answer a = answer(made, tally);
     expect(same_answer(&a, &untallied), "another answer than the order check's");
     expect(same_tally(tally, &expected), "another tally than expected");
@@ -168,61 +164,12 @@ static void test_good_tallies(void) {
     }
 }
 
-#define HALF (1ULL << 63)
-#define THIRD (UINT64_MAX / 3)
-
-/* Tallies on which nothing is counted. */
-static const struct opc_tally bad[] = {
-    /* The last check is counted. */
-    {1000000, 1000000, 0, 0},
-    {1000000, 0, 1000000, 0},
-    {1000000, 0, 0, 1000000},
-    {1000001, 1, 1000000, 0},
-    {1ULL << 32, 0, 1ULL << 32, 0},
-    {UINT64_MAX, UINT64_MAX, 0, 0},
-    {UINT64_MAX, THIRD, THIRD, THIRD},
-    /* One more or one less in one of the four. */
-    {7, 1, 2, 3},
-    {5, 1, 2, 3},
-    {6, 2, 2, 3},
-    {6, 0, 2, 3},
-    {6, 1, 3, 3},
-    {6, 1, 1, 3},
-    {6, 1, 2, 4},
-    {6, 1, 2, 2},
-    {1, 0, 0, 0},
-    {0, 1, 0, 0},
-    {0, 0, 1, 0},
-    {0, 0, 0, 1},
-    {999999, 1000000, 0, 0},
-    {1000000, 999999, 0, 0},
-    {1000000, 0, 0, 0},
-    {UINT64_MAX, 0, 0, 0},
-    {0, UINT64_MAX, UINT64_MAX, UINT64_MAX},
-    /* The sum is right in 64 bits only, whichever two are added first. */
-    {0, UINT64_MAX, 1, 0},
-    {0, UINT64_MAX, 0, 1},
-    {0, 0, UINT64_MAX, 1},
-    {0, 1, UINT64_MAX, 0},
-    {5, HALF, HALF, 5},
-    {5, HALF, 5, HALF},
-    {5, 5, HALF, HALF},
-    {4, UINT64_MAX, 2, 3},
-    {999999, UINT64_MAX, 1, 999999},
-    /* Three times two THIRDs: twice over, and 1. */
-    {1, 2 * THIRD + 1, 2 * THIRD + 1, 2 * THIRD + 1},
-    /* The sum is right in 32 bits only. */
-    {6, 1ULL << 32 | 1, 2, 3},
-    {6, 1, 1ULL << 32 | 2, 3},
-    {6, 1, 2, 1ULL << 32 | 3},
-};
-
 /* 12 comes first, whatever the order. */
 static void test_bad_tallies(void) {
-    for (size_t i = 0; i < COUNT(bad); i++) {
+    for (size_t i = 0; i < COUNT(bad_tallies); i++) {
         for (size_t j = 0; j < COUNT(numbers); j++) {
             struct made_order m = order_given(numbers[j]);
-            expect_not_counted(&m, bad[i]);
+            expect_not_counted(&m, bad_tallies[i]);
         }
     }
 }

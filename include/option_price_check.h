@@ -43,9 +43,9 @@ extern "C" {
 #endif
 
 /* Of this face: one more with each change of an entry, a struct, a number or a limit. */
-#define OPC_VERSION 1
+#define OPC_VERSION 2
 
-/* What a number says of an order, a quote or a symbol. */
+/* What a number says of an order, a message, a quote or a symbol. */
 enum opc_outcome {
     OPC_OUTCOME_ACCEPTED = 0,
     OPC_OUTCOME_REFUSED = 1, /* not judged; all other numbers but a tally's are 0 */
@@ -93,7 +93,13 @@ enum opc_outcome {
     ROW(OPC_CHECK_TICK_DISTANCE, 25, REJECTED, "trading firm", "tick distance",                    \
         "the tick distance check: the price is further from its reference than allowed")           \
     ROW(OPC_CHECK_QUOTE_INVERSION, 26, REJECTED, "trading firm", "quote inversion",                \
-        "the quote inversion check: the bid or the offer inverts the market")
+        "the quote inversion check: the bid or the offer inverts the market")                      \
+    ROW(OPC_BAD_FRAME, 30, REFUSED, "trading firm", "frame",                                       \
+        "the message's frame, length or sum is wrong")                                             \
+    ROW(OPC_BAD_TAG, 31, REFUSED, "trading firm", "tag",                                           \
+        "a needed tag is missing, repeated or out of sequence")                                    \
+    ROW(OPC_BAD_VALUE, 32, REFUSED, "trading firm", "value",                                       \
+        "the value of a needed tag is not of its form")
 
 #define OPC_ENUMERATOR(name, number, outcome, author, word, meaning) name = number,
 enum opc_number { OPC_NUMBERS(OPC_ENUMERATOR) };
@@ -320,7 +326,7 @@ OPC_STATIC_ASSERT(sizeof(struct opc_market) == OPC_MARKET_COUNT * sizeof(uint64_
         .nbb = 0, .nbo = 0, .own_bid = 0, .own_offer = 0, .previous_close = 0                      \
     }
 
-/* The answer to an order; class, shape and pairings are 0 on a refusal. */
+/* The answer to an order or a message; class, shape and pairings are 0 on a refusal. */
 struct opc_answer {
     uint64_t number;   /* as in enum opc_number */
     uint64_t class_;   /* as in enum opc_class (`class` is a word of C++) */
@@ -453,6 +459,110 @@ static inline struct opc_answer opc_answer_order_tallied(const struct opc_order 
         OPC_SETTINGS_COUNT, (const uint64_t *)market, OPC_MARKET_COUNT, &answer.class_,
         &answer.shape, &answer.pairings, &tally->seen, &tally->refused, &tally->accepted,
         &tally->rejected);
+    return answer;
+}
+
+/*
+ * An order as a message, the New Order Multileg of FIX 4.4. The flags come from the host, whatever
+ * the message says: 0 is no, any other value yes.
+ *
+ * A field is a tag of 1 to 9 digits that does not begin with 0, a '=', a value of any bytes but
+ * byte 1, perhaps none, and byte 1. A '|', which stands for byte 1 where messages are printed, is
+ * here a byte like any other. A message is fields from its first byte to its last:
+ *   8    FIX.4.4
+ *   9    the number of bytes after this field and before field 10, in 1 to 15 digits
+ *   35   AB
+ *   the body: any fields but a further 8, 9, 35 or 10
+ *   10   the sum of all bytes before this field, modulo 256, in three digits
+ *
+ * The body has each of these once, in any sequence. Fields of other tags may stand anywhere but
+ * among the groups, and are stepped over.
+ *   40   1 for a market order, 2 for a limit order
+ *   44   the price in dollars, with the sign of opc_order's: a minus or none, 1 to 15 digits, then
+ *        nothing, or a point and 1 to 3 digits; of a market order, which has it too, the price at
+ *        which it would execute
+ *   555  the number of legs, in 1 to 15 digits; so many groups come next:
+ *          600  the symbol, 21 bytes
+ *          623  the size of the count, in 1 to 15 digits
+ *          624  1 to buy, 2 to sell
+ */
+struct opc_fix {
+    const uint8_t *message; /* any bytes */
+    size_t message_len;     /* any length */
+    uint64_t stop;          /* flag: a stop order */
+    uint64_t manual;        /* flag: manual routing */
+    uint64_t opening;       /* flag: in the opening process */
+};
+
+/*
+ * Checks the order in a message against the settings and the market. The fields, with their limits
+ * and units, are those of struct opc_fix, opc_settings and opc_market, in the same sequence.
+ *
+ * Returns the first of these that applies:
+ *   the message is refused, by a fault of the trading firm,
+ *     OPC_BAD_FRAME  some bytes are no field; 8, 9, 35 or 10 is missing, in another place or there
+ *                    twice; 8 or 35 has another value; the length or the sum is wrong, or not of
+ *                    its form;
+ *     OPC_BAD_TAG    40, 44 or 555 is missing or there twice; of the groups a field is missing, or
+ *                    another one stands in its place; a 600, 623 or 624 is elsewhere; a 555 whose
+ *                    value is not of its form has no groups;
+ *     OPC_BAD_VALUE  a value of 40, 44, 555, 600, 623 or 624 is not of its form, in legs after the
+ *                    16th too;
+ *   otherwise
+ *     the number that opc_check_order gives for the legs in the message, its price and kind, and
+ *     the flags. It is never OPC_NOT_21_BYTES; of no leg, or more than 16, it is
+ *     OPC_BAD_LEG_COUNT.
+ *
+ * *class_, *shape and *pairings are set as opc_check_order sets them, and to 0 where the message is
+ * refused. The sequence of the groups does not matter to any of the four.
+ */
+uint64_t OPC_CALL opc_check_fix(const uint8_t *message, size_t message_len, uint64_t stop,
+                                uint64_t manual, uint64_t opening, const uint64_t *settings,
+                                size_t settings_len, const uint64_t *market, size_t market_len,
+                                uint64_t *class_, uint64_t *shape, uint64_t *pairings);
+
+/* opc_check_fix, with message, settings, market and answer in structs. */
+static inline struct opc_answer opc_answer_fix(const struct opc_fix *fix,
+                                               const struct opc_settings *settings,
+                                               const struct opc_market *market) {
+    struct opc_answer answer;
+    answer.number =
+        opc_check_fix(fix->message, fix->message_len, fix->stop, fix->manual, fix->opening,
+                      (const uint64_t *)settings, OPC_SETTINGS_COUNT, (const uint64_t *)market,
+                      OPC_MARKET_COUNT, &answer.class_, &answer.shape, &answer.pairings);
+    return answer;
+}
+
+/*
+ * Checks the order in a message as opc_check_fix does, and counts it in a tally, as
+ * opc_check_order_tallied does an order: the two may share a tally.
+ *
+ * Returns the first of these that applies:
+ *   OPC_BAD_TALLY  as opc_check_order_tallied has it, whatever the message;
+ *   otherwise      the number that opc_check_fix gives.
+ *
+ * After OPC_BAD_TALLY, *class_, *shape and *pairings are 0, and the tally is as it was. Otherwise
+ * they are as opc_check_fix sets them; *seen is one more than it was, and so is *accepted,
+ * *rejected or *refused, as opc_outcome_of says of the number.
+ */
+uint64_t OPC_CALL opc_check_fix_tallied(const uint8_t *message, size_t message_len, uint64_t stop,
+                                        uint64_t manual, uint64_t opening, const uint64_t *settings,
+                                        size_t settings_len, const uint64_t *market,
+                                        size_t market_len, uint64_t *class_, uint64_t *shape,
+                                        uint64_t *pairings, uint64_t *seen, uint64_t *refused,
+                                        uint64_t *accepted, uint64_t *rejected);
+
+/* opc_check_fix_tallied, with message, settings, market, tally and answer in structs. */
+static inline struct opc_answer opc_answer_fix_tallied(const struct opc_fix *fix,
+                                                       const struct opc_settings *settings,
+                                                       const struct opc_market *market,
+                                                       struct opc_tally *tally) {
+    struct opc_answer answer;
+    answer.number = opc_check_fix_tallied(
+        fix->message, fix->message_len, fix->stop, fix->manual, fix->opening,
+        (const uint64_t *)settings, OPC_SETTINGS_COUNT, (const uint64_t *)market, OPC_MARKET_COUNT,
+        &answer.class_, &answer.shape, &answer.pairings, &tally->seen, &tally->refused,
+        &tally->accepted, &tally->rejected);
     return answer;
 }
 

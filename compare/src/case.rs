@@ -3,6 +3,8 @@
 
 use crate::{
     arrival::{Answer, Arrival},
+    fix,
+    message::Message,
     numbers::{kind, Kind},
     order,
     quote::{Quote, QuoteAnswer},
@@ -14,7 +16,7 @@ use crate::{
 };
 use std::fmt::{Debug, Display};
 
-pub trait Case: Display {
+pub trait Case: Clone + Display + PartialEq {
     type Answer: Copy + Debug + PartialEq;
 
     fn library(&self) -> Self::Answer;
@@ -25,6 +27,11 @@ pub trait Case: Display {
 
     /// Counts what was lent and answered.
     fn count(&self, answer: &Self::Answer, seen: &mut Seen);
+}
+
+/// What the tallied checks take: an order on slices, or a message with one.
+pub trait Arriving: Case<Answer = Answer> {
+    fn library_tallied(tallied: &Tallied<Self>) -> TalliedAnswer;
 }
 
 fn terms(settings: &[u64], market: &[u64]) -> String {
@@ -59,23 +66,69 @@ impl Case for Arrival {
         )
     }
 
-    /// Classes, shapes and pairings are those of valid orders.
     fn count(&self, answer: &Answer, seen: &mut Seen) {
         seen.count_lengths(&self.settings, &self.market);
-        *seen.numbers.entry(answer.number).or_default() += 1;
-        if kind(answer.number) != Kind::Refused {
-            *seen.classes.entry(answer.class).or_default() += 1;
-            *seen.shapes.entry(answer.shape).or_default() += 1;
-            *seen.pairings.entry(answer.pairings).or_default() += 1;
-        }
+        count_answer(answer, seen);
     }
 }
 
-impl Case for Tallied {
+/// Classes, shapes and pairings are those of valid orders.
+fn count_answer(answer: &Answer, seen: &mut Seen) {
+    *seen.numbers.entry(answer.number).or_default() += 1;
+    if kind(answer.number) != Kind::Refused {
+        *seen.classes.entry(answer.class).or_default() += 1;
+        *seen.shapes.entry(answer.shape).or_default() += 1;
+        *seen.pairings.entry(answer.pairings).or_default() += 1;
+    }
+}
+
+impl Arriving for Arrival {
+    fn library_tallied(tallied: &Tallied<Self>) -> TalliedAnswer {
+        unit::check_order_tallied(tallied)
+    }
+}
+
+impl Case for Message {
+    type Answer = Answer;
+
+    fn library(&self) -> Answer {
+        unit::check_fix(self)
+    }
+
+    fn second(&self) -> Answer {
+        fix::check(self)
+    }
+
+    fn described(&self) -> String {
+        format!(
+            "  message \"{}\"
+  stop {}, manual {}, opening {}
+{}",
+            self.as_text(),
+            self.stop,
+            self.manual,
+            self.opening,
+            terms(&self.settings, &self.market),
+        )
+    }
+
+    fn count(&self, answer: &Answer, seen: &mut Seen) {
+        seen.count_lengths(&self.settings, &self.market);
+        count_answer(answer, seen);
+    }
+}
+
+impl Arriving for Message {
+    fn library_tallied(tallied: &Tallied<Self>) -> TalliedAnswer {
+        unit::check_fix_tallied(tallied)
+    }
+}
+
+impl<A: Arriving> Case for Tallied<A> {
     type Answer = TalliedAnswer;
 
     fn library(&self) -> TalliedAnswer {
-        unit::check_order_tallied(self)
+        A::library_tallied(self)
     }
 
     fn second(&self) -> TalliedAnswer {

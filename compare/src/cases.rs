@@ -1,15 +1,17 @@
 //! The cases that every implementation is held to: the files `cases/*.desk`, lines of the desk's
-//! form (`host/desk --help`), each order and quote with its expected answer after `#=`.
+//! form (`host/desk --help`), each order, message and quote with its expected answer after `#=`.
 //!
-//! A line that cannot be read is an error with its place, and so is an order or a quote without an
-//! answer: no case is passed over.
+//! A line that cannot be read is an error with its place, and so is an order, a message or a quote
+//! without an answer: no case is passed over.
 
 use crate::{
     arrival::{Answer, Arrival, RawLeg},
     case::Case,
+    message::{Message, END},
     numbers::{self, kind, Kind, Of},
     quote::{Quote, QuoteAnswer},
     slices::{market, setting, EXAMPLE_MARKET, EXAMPLE_SETTINGS},
+    text::{mills, whole},
     SYMBOL_LENGTH,
 };
 use std::{fs, path::Path, str};
@@ -24,6 +26,7 @@ pub struct Expected<C: Case> {
 #[derive(Default)]
 pub struct Cases {
     pub orders: Vec<Expected<Arrival>>,
+    pub messages: Vec<Expected<Message>>,
     pub quotes: Vec<Expected<Quote>>,
 }
 
@@ -63,7 +66,12 @@ impl Cases {
             b"order" => self.orders.push(Expected {
                 place,
                 case: line.order(terms)?,
-                answer: line.answer(order_answer)?,
+                answer: line.answer(|text| order_answer(Of::Order, text))?,
+            }),
+            b"fix" => self.messages.push(Expected {
+                place,
+                case: line.message(terms)?,
+                answer: line.answer(|text| order_answer(Of::Message, text))?,
             }),
             b"quote" => self.quotes.push(Expected {
                 place,
@@ -188,6 +196,39 @@ impl<'a> Rest<'a> {
         })
     }
 
+    /// Flags, and a message: all after one blank, up to the blanks before the answer. A bar is the
+    /// byte that ends a field.
+    fn message(&mut self, terms: &Terms) -> Result<Message, String> {
+        let mut flags = [0; 3];
+        while let [b'a'..=b'z', ..] = Rest(self.0).peek() {
+            let known = |word| {
+                ["stop", "manual", "opening"]
+                    .iter()
+                    .position(|&known| known == word)
+            };
+            flags[self.take("a word", |word| known(word).filter(|&at| flags[at] == 0))?] = 1;
+        }
+        let text = self.0.strip_prefix(b" ").unwrap_or(self.0);
+        let begins = |&at: &usize| {
+            text[at..].starts_with(b"#") && (at == 0 || BLANKS.contains(&text[at - 1]))
+        };
+        let end = (0..text.len())
+            .find(begins)
+            .ok_or("the answer is missing")?;
+        self.0 = &text[end..];
+        let bytes = text[..end].trim_ascii_end().iter();
+        let bytes = bytes.map(|&byte| if byte == b'|' { END } else { byte });
+        let [stop, manual, opening] = flags;
+        Ok(Message {
+            bytes: bytes.collect(),
+            stop,
+            manual,
+            opening,
+            settings: terms.settings.clone(),
+            market: terms.market.clone(),
+        })
+    }
+
     fn quote(&mut self, terms: &Terms) -> Result<Quote, String> {
         let symbol = self.series()?;
         let [bid, offer] = [self.take("a bid", mills)?, self.take("an offer", mills)?];
@@ -238,19 +279,6 @@ fn length_while(bytes: &[u8], holds: impl Fn(&u8) -> bool) -> usize {
     bytes.iter().take_while(|byte| holds(byte)).count()
 }
 
-/// Digits alone.
-fn whole(text: &str) -> Option<u64> {
-    let digits = text.bytes().all(|byte| byte.is_ascii_digit());
-    text.parse().ok().filter(|_| digits)
-}
-
-/// Dollars without a sign: digits, then none or a point and one to three more.
-fn mills(text: &str) -> Option<u64> {
-    let (dollars, decimals) = text.split_once('.').unwrap_or((text, "0"));
-    let right = whole(dollars).and(whole(decimals)).is_some() && decimals.len() <= 3;
-    whole(&format!("{dollars}{decimals:0<3}")).filter(|_| right)
-}
-
 /// A size, after a sign or none.
 fn signed(text: &str, size: fn(&str) -> Option<u64>) -> Option<i64> {
     let (sign, digits) = match text.strip_prefix('-') {
@@ -275,9 +303,9 @@ fn number_of(what: Of, text: &str) -> Option<u64> {
 }
 
 /// NUMBER of a refusal, otherwise NUMBER CLASS, SHAPE, PAIRINGS.
-fn order_answer(text: &str) -> Option<Answer> {
+fn order_answer(what: Of, text: &str) -> Option<Answer> {
     let (number, words) = text.split_once(' ').unwrap_or((text, ""));
-    let number = number_of(Of::Order, number)?;
+    let number = number_of(what, number)?;
     if kind(number) == Kind::Refused {
         return words.is_empty().then_some(Answer::refusal(number));
     }
@@ -370,7 +398,7 @@ quote XYZ 270115 C 20 1 2 #= 20 cancelled";
             reset\n\
             quote ABCDEFG 270115 P 0.5 1 2.05 resting #= 20 cancel",
         );
-        let Cases { orders, quotes } = cases.unwrap_or_else(|trouble| panic!("{trouble}"));
+        let Cases { orders, quotes, .. } = cases.unwrap_or_else(|trouble| panic!("{trouble}"));
         let [order, quote] = [&orders[0].place, &quotes[0].place];
         assert_eq!([order, quote], ["file:2", "file:4"]);
         let mut order = Arrival::limit(

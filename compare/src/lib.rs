@@ -3,9 +3,9 @@
 //!
 //! `unit` is the library. `numbers` has every number with its kind, `slices` the names of settings
 //! and market. The second implementation is `osi` for symbols, `order`, with `pairing`, `shape`,
-//! `class` and `checks` below it, for orders, `tally` for tallied ones and `quote_check` for quotes.
-//! `cases` reads those of the repository's files, `generate` and `limits` make others up, and `run`
-//! puts them to both and counts.
+//! `class` and `checks` below it, for orders, `fix` for messages, `tally` for tallied ones of both,
+//! and `quote_check` for quotes. `cases` reads those of the repository's files, `generate` and
+//! `limits` make others up, and `run` puts them to both and counts.
 #![deny(unsafe_code)]
 
 pub mod arrival;
@@ -13,9 +13,11 @@ pub mod case;
 pub mod cases;
 pub mod checks;
 pub mod class;
+pub mod fix;
 pub mod generate;
 pub mod legs;
 pub mod limits;
+pub mod message;
 pub mod numbers;
 pub mod order;
 pub mod osi;

@@ -1,5 +1,5 @@
-//! What the tests of orders and of quotes share: values that are cut short easily, every choice of
-//! faults and of values, and slices of every length.
+//! What the tests of orders, of messages and of quotes share: values that are cut short easily,
+//! every choice of faults and of values, and slices of every length.
 
 use crate::{
     numbers::{ACCEPTED, BAD_MARKET, BAD_SETTING},
@@ -13,18 +13,18 @@ pub const EXTREMES: [u64; 4] = [1 << 32, 1 << 63, u64::MAX - 1, u64::MAX];
 /// A number, and what makes a case get it.
 pub type Fault<C> = (u64, fn(&mut C));
 
-/// The case with any of the faults, made from the last to the first, and the lowest of their
-/// numbers, 0 without any. The faults have rising numbers.
+/// The case with any of the faults, made from the last to the first, and the number of the first of
+/// them, 0 without any. The faults stand in the sequence in which numbers are given.
 pub fn faults_together<C: Clone>(case: &C, faults: &[Fault<C>]) -> Vec<(C, u64)> {
     let with_faults = |chosen: u32| {
-        let (mut case, mut lowest) = (case.clone(), 0);
+        let (mut case, mut first) = (case.clone(), 0);
         for (place, (number, make)) in faults.iter().enumerate().rev() {
             if chosen >> place & 1 == 1 {
                 make(&mut case);
-                lowest = *number;
+                first = *number;
             }
         }
-        (case, lowest)
+        (case, first)
     };
     (0..1 << faults.len()).map(with_faults).collect()
 }

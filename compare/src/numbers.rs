@@ -1,8 +1,8 @@
-//! The numbers of document 01, Number and its author: each once, with its kind and of what it can
-//! be said.
+//! The numbers of document 01, Number and its author, and of document 02, S-1: each once, with its
+//! kind and of what it can be said.
 
 use Kind::{Accepted, Refused, Rejected};
-use Of::{Order, Quote, Symbol, Tally};
+use Of::{Message, Order, Quote, Symbol, Tally};
 
 #[derive(Clone, Copy, Debug, PartialEq, Eq)]
 pub enum Kind {
@@ -11,12 +11,13 @@ pub enum Kind {
     Rejected,
 }
 
-/// Of a symbol it is said by the reader or the writer. Of a tallied order all is said that is said
-/// of an order, and more of its tally.
+/// Of a symbol it is said by the reader or the writer. Of a tallied order or message all is said
+/// that is said of one without a tally, and more of its tally.
 #[derive(Clone, Copy, Debug, PartialEq, Eq)]
 pub enum Of {
     Symbol,
     Order,
+    Message,
     Tally,
     Quote,
 }
@@ -28,33 +29,39 @@ pub const BAD_SYMBOL: u64 = 4;
 pub const BAD_SETTING: u64 = 9;
 pub const BAD_MARKET: u64 = 10;
 pub const BAD_TALLY: u64 = 12;
+pub const BAD_FRAME: u64 = 30;
+pub const BAD_TAGS: u64 = 31;
+pub const BAD_VALUE: u64 = 32;
 
-const ALL: [(u64, Kind, &[Of]); 20] = [
-    (ACCEPTED, Accepted, &[Symbol, Order, Quote]),
+const ALL: [(u64, Kind, &[Of]); 23] = [
+    (ACCEPTED, Accepted, &[Symbol, Order, Message, Quote]),
     (NOT_21_BYTES, Refused, &[Symbol, Order, Quote]),
     (SHORT_BUFFER, Refused, &[Symbol]),
-    (3, Refused, &[Order]),
-    (BAD_SYMBOL, Refused, &[Symbol, Order, Quote]),
-    (5, Refused, &[Order]),
-    (6, Refused, &[Order]),
-    (7, Refused, &[Order]),
-    (8, Refused, &[Order]),
-    (BAD_SETTING, Refused, &[Order, Quote]),
-    (BAD_MARKET, Refused, &[Order, Quote]),
+    (3, Refused, &[Order, Message]),
+    (BAD_SYMBOL, Refused, &[Symbol, Order, Message, Quote]),
+    (5, Refused, &[Order, Message]),
+    (6, Refused, &[Order, Message]),
+    (7, Refused, &[Order, Message]),
+    (8, Refused, &[Order, Message]),
+    (BAD_SETTING, Refused, &[Order, Message, Quote]),
+    (BAD_MARKET, Refused, &[Order, Message, Quote]),
     (11, Refused, &[Quote]),
     (BAD_TALLY, Refused, &[Tally]),
-    (20, Rejected, &[Order, Quote]),
-    (21, Rejected, &[Order, Quote]),
-    (22, Rejected, &[Order]),
-    (23, Rejected, &[Order]),
-    (24, Rejected, &[Order]),
-    (25, Rejected, &[Order]),
+    (20, Rejected, &[Order, Message, Quote]),
+    (21, Rejected, &[Order, Message, Quote]),
+    (22, Rejected, &[Order, Message]),
+    (23, Rejected, &[Order, Message]),
+    (24, Rejected, &[Order, Message]),
+    (25, Rejected, &[Order, Message]),
     (26, Rejected, &[Quote]),
+    (BAD_FRAME, Refused, &[Message]),
+    (BAD_TAGS, Refused, &[Message]),
+    (BAD_VALUE, Refused, &[Message]),
 ];
 
 pub fn kind(number: u64) -> Kind {
     let row = ALL.iter().find(|row| row.0 == number);
-    row.unwrap_or_else(|| panic!("document 01 has no number {number}"))
+    row.unwrap_or_else(|| panic!("the documents have no number {number}"))
         .1
 }
 

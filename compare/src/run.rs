@@ -64,9 +64,12 @@ impl Run {
         self.expect(case, case.second(), "the second implementation")
     }
 
-    /// Holds the library to an answer that was found in some way.
+    /// Holds the library to an answer that was found in some way. What it was lent to read must be
+    /// as it was.
     pub fn expect<C: Case>(&mut self, case: &C, expected: C::Answer, found_by: &str) -> C::Answer {
-        let answer = case.library();
+        let lent = case.clone();
+        let answer = lent.library();
+        assert!(lent == *case, "the library changed {case}\n to {lent}");
         if answer != expected {
             self.difference(case, answer, expected, found_by);
         }

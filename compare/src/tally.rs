@@ -1,11 +1,11 @@
 //! The tallied check: what one call is handed and answers, a line of text for it, and the second
 //! implementation. No number is added to `seen` there: the order is put to its kind, and `seen` is
-//! what all kinds come to.
+//! what all kinds come to. What arrives is an order on slices, or a message with one.
 
 use crate::{
     arrival::{Answer, Arrival},
+    case::Case,
     numbers::{kind, Kind, BAD_TALLY},
-    order,
     text::{just, list},
 };
 use std::{fmt, str::FromStr};
@@ -26,8 +26,8 @@ pub struct Tally {
 
 /// Everything that one tallied check is handed.
 #[derive(Clone, Debug, PartialEq, Eq)]
-pub struct Tallied {
-    pub arrival: Arrival,
+pub struct Tallied<A = Arrival> {
+    pub arrival: A,
     pub tally: Tally,
 }
 
@@ -38,8 +38,8 @@ pub struct TalliedAnswer {
     pub tally: Tally,
 }
 
-pub fn check(tallied: &Tallied) -> TalliedAnswer {
-    add(tallied.tally, order::check(&tallied.arrival))
+pub fn check<A: Case<Answer = Answer>>(tallied: &Tallied<A>) -> TalliedAnswer {
+    add(tallied.tally, tallied.arrival.second())
 }
 
 /// The tallied check of an order that gets some answer without a tally.
@@ -84,15 +84,15 @@ impl Tally {
     }
 }
 
-/// Eight words: that it is tallied, the six of the arrival, and the tally.
-impl fmt::Display for Tallied {
+/// That it is tallied, the words of what arrives, and the tally.
+impl<A: fmt::Display> fmt::Display for Tallied<A> {
     fn fmt(&self, f: &mut fmt::Formatter) -> fmt::Result {
         let tally = list(&self.tally.numbers());
         write!(f, "{TALLIED} {} {tally}", self.arrival)
     }
 }
 
-impl FromStr for Tallied {
+impl<A: FromStr<Err = String>> FromStr for Tallied<A> {
     type Err = String;
 
     fn from_str(line: &str) -> Result<Self, String> {

@@ -1,4 +1,4 @@
-//! Bytes and numbers as words of a line of text, and back.
+//! Bytes and numbers as words of a line of text, and back; amounts of dollars as mills.
 
 /// Two digits a byte; a dash for none.
 pub fn hexadecimal(bytes: &[u8]) -> String {
@@ -44,4 +44,17 @@ pub fn just<const N: usize>(word: &str) -> Result<[u64; N], String> {
     numbers
         .try_into()
         .map_err(|_| format!("not {N} numbers: {word}"))
+}
+
+/// Digits alone.
+pub fn whole(text: &str) -> Option<u64> {
+    let digits = text.bytes().all(|byte| byte.is_ascii_digit());
+    text.parse().ok().filter(|_| digits)
+}
+
+/// Dollars without a sign: digits, then none or a point and one to three more.
+pub fn mills(text: &str) -> Option<u64> {
+    let (dollars, decimals) = text.split_once('.').unwrap_or((text, "0"));
+    let right = whole(dollars).and(whole(decimals)).is_some() && decimals.len() <= 3;
+    whole(&format!("{dollars}{decimals:0<3}")).filter(|_| right)
 }

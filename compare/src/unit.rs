@@ -2,6 +2,7 @@
 
 use crate::{
     arrival::{Answer, Arrival},
+    message::Message,
     quote::{Quote, QuoteAnswer},
     tally::{Tallied, TalliedAnswer},
     Parts, Read, Written,
@@ -60,9 +61,10 @@ macro_rules! call {
     }};
 }
 
-/// Calls an entry of the order check, which may be lent more than the parts of the answer.
-macro_rules! call_order {
-    ($entry:ident, $arrival:expr, [$($more:tt)*]) => {{
+/// Calls an entry that answers as the order check does, and may be lent more than the parts of the
+/// answer.
+macro_rules! call_for_answer {
+    ($entry:ident, $case:expr, [$($before:tt)*], [$($more:tt)*]) => {{
         let mut answer = Answer {
             number: UNSET,
             class: UNSET,
@@ -70,17 +72,12 @@ macro_rules! call_order {
             pairings: UNSET,
         };
         answer.number = call!(
-            $entry, $arrival,
+            $entry, $case,
             [
-                symbols: *const u8 = $arrival.symbols.as_ptr(),
-                symbols_len: usize = $arrival.symbols.len(),
-                counts: *const u8 = $arrival.counts.as_ptr(),
-                counts_len: usize = $arrival.counts.len(),
-                price: i64 = $arrival.price,
-                kind: u64 = $arrival.kind,
-                stop: u64 = $arrival.stop,
-                manual: u64 = $arrival.manual,
-                opening: u64 = $arrival.opening,
+                $($before)*
+                stop: u64 = $case.stop,
+                manual: u64 = $case.manual,
+                opening: u64 = $case.opening,
             ],
             [
                 class: answer.class,
@@ -90,6 +87,53 @@ macro_rules! call_order {
             ]
         );
         answer
+    }};
+}
+
+macro_rules! call_order {
+    ($entry:ident, $arrival:expr, $more:tt) => {
+        call_for_answer!(
+            $entry, $arrival,
+            [
+                symbols: *const u8 = $arrival.symbols.as_ptr(),
+                symbols_len: usize = $arrival.symbols.len(),
+                counts: *const u8 = $arrival.counts.as_ptr(),
+                counts_len: usize = $arrival.counts.len(),
+                price: i64 = $arrival.price,
+                kind: u64 = $arrival.kind,
+            ],
+            $more
+        )
+    };
+}
+
+macro_rules! call_fix {
+    ($entry:ident, $message:expr, $more:tt) => {
+        call_for_answer!(
+            $entry, $message,
+            [
+                message: *const u8 = $message.bytes.as_ptr(),
+                message_len: usize = $message.bytes.len(),
+            ],
+            $more
+        )
+    };
+}
+
+/// Calls an entry by one of these two, with a tally.
+macro_rules! call_tallied {
+    ($call:ident, $entry:ident, $tallied:expr) => {{
+        let (arrival, mut tally) = (&$tallied.arrival, $tallied.tally);
+        let answer = $call!(
+            $entry, arrival,
+            [
+                seen: tally.seen,
+                refused: tally.refused,
+                accepted: tally.accepted,
+                rejected: tally.rejected,
+            ]
+        );
+        TalliedAnswer { answer, tally }
     }};
 }
 
@@ -147,20 +191,18 @@ pub fn check_order(arrival: &Arrival) -> Answer {
 }
 
 pub fn check_order_tallied(tallied: &Tallied) -> TalliedAnswer {
-    let (arrival, mut tally) = (&tallied.arrival, tallied.tally);
     // SAFETY: as for the order check, and the tally's numbers are distinct fields.
-    let answer = unsafe {
-        call_order!(
-            opc_check_order_tallied, arrival,
-            [
-                seen: tally.seen,
-                refused: tally.refused,
-                accepted: tally.accepted,
-                rejected: tally.rejected,
-            ]
-        )
-    };
-    TalliedAnswer { answer, tally }
+    unsafe { call_tallied!(call_order, opc_check_order_tallied, tallied) }
+}
+
+pub fn check_fix(message: &Message) -> Answer {
+    // SAFETY: as for the order check.
+    unsafe { call_fix!(opc_check_fix, message, []) }
+}
+
+pub fn check_fix_tallied(tallied: &Tallied<Message>) -> TalliedAnswer {
+    // SAFETY: as for the tallied order check.
+    unsafe { call_tallied!(call_fix, opc_check_fix_tallied, tallied) }
 }
 
 pub fn check_quote(quote: &Quote) -> QuoteAnswer {

@@ -51,6 +51,13 @@ fn both_hold_every_order() {
     run.require_classes_and_shapes(1);
 }
 
+#[test]
+fn both_hold_every_message() {
+    let mut run = Run::new("messages of cases");
+    hold(&mut run, &cases::all().messages, ["cases/messages.desk"; 2]);
+    run.finish(&numbers_of(Of::Message), 150);
+}
+
 /// Whether a quote is resting changes the cancel flag alone, which is set where a check rejects.
 #[test]
 fn both_hold_every_quote() {

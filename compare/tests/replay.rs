@@ -5,7 +5,9 @@
 use compare::{
     arrival::Arrival,
     case::Case,
-    cases, generate, order,
+    cases, generate,
+    message::{Message, MESSAGE},
+    order,
     quote::{Quote, QUOTE},
     random::Random,
     run::{Run, CASE_VARIABLE},
@@ -18,9 +20,12 @@ fn replay() {
     let Ok(line) = env::var(CASE_VARIABLE) else {
         return lines_read_back();
     };
-    match line.split_whitespace().next() {
-        Some(QUOTE) => again::<Quote>(&line),
-        Some(TALLIED) => again::<Tallied>(&line),
+    let mut words = line.split_whitespace();
+    match (words.next(), words.next()) {
+        (Some(QUOTE), _) => again::<Quote>(&line),
+        (Some(MESSAGE), _) => again::<Message>(&line),
+        (Some(TALLIED), Some(MESSAGE)) => again::<Tallied<Message>>(&line),
+        (Some(TALLIED), _) => again::<Tallied>(&line),
         _ => {
             let arrival = read(&line);
             println!("by contracts: {:?}", order::check_by_contracts(&arrival));
@@ -56,6 +61,12 @@ fn lines_read_back() {
         reads_back(&arrival);
         let tally = Tally::of_numbers([0; 4].map(|_| random.number()));
         reads_back(&Tallied { arrival, tally });
+        let message = generate::message(&mut random);
+        reads_back(&message);
+        reads_back(&Tallied {
+            arrival: message,
+            tally,
+        });
         reads_back(&generate::quote(&mut random));
     }
 }

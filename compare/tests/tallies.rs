@@ -1,10 +1,12 @@
-//! Tallied checks put to both implementations, one after the other: number, class, shape, pairings
-//! and the whole tally after each. At the end of a list the tally is held to what the test counted
-//! by itself, from the answers of the check without a tally.
+//! Tallied checks of orders and of messages put to both implementations, one after the other, at
+//! times with one tally for both: number, class, shape, pairings and the whole tally after each. At
+//! the end of a list the tally is held to what the test counted by itself, from the answers of the
+//! check without a tally.
 
 use compare::{
     arrival::{Answer, Arrival},
-    generate::arrival,
+    case::Arriving,
+    generate::{arrival, message},
     limits::every_length,
     numbers::{self, kind, Kind, Of, BAD_TALLY},
     order,
@@ -12,7 +14,6 @@ use compare::{
     run::Run,
     slices::{market, setting},
     tally::{self, Tallied, TalliedAnswer, Tally},
-    unit,
 };
 use std::collections::BTreeMap;
 
@@ -40,8 +41,8 @@ impl List {
 
     /// One more check, held to the second implementation and to the check without a tally, whose
     /// answer is given.
-    fn put(&mut self, run: &mut Run, arrival: Arrival) -> Answer {
-        let plain = unit::check_order(&arrival);
+    fn put<A: Arriving>(&mut self, run: &mut Run, arrival: A) -> Answer {
+        let plain = arrival.library();
         let tally = self.tally;
         let answer = run.compare(&Tallied { arrival, tally });
         self.count(plain, answer);
@@ -78,23 +79,21 @@ impl List {
     }
 }
 
-/// Lists of up to 1,500 checks from a fresh tally. A check with a tally that is broken, now and
-/// then, is no part of the list.
+/// Lists of up to 1,500 checks from a fresh tally, of orders, of messages, or of both.
 #[test]
 fn lists_from_a_fresh_tally() {
     let mut run = Run::new("tallied lists");
     let mut strays = 0;
     let mut lengths = 0;
-    for _ in 0..300 {
+    for round in 0..450 {
         let mut list = List::from(Tally::default());
         let length = run.random.index(1_501);
         for _ in 0..length {
-            let arrival = arrival(&mut run.random);
-            if run.random.index(8) == 0 {
-                put_broken(&mut run, &arrival, list.tally);
-                strays += 1;
-            }
-            list.put(&mut run, arrival);
+            let is_message = [false, true, run.random.index(2) == 0][round % 3];
+            strays += match is_message {
+                true => put_made_up(&mut list, &mut run, message),
+                false => put_made_up(&mut list, &mut run, arrival),
+            };
         }
         list.finish();
         lengths += length;
@@ -102,12 +101,25 @@ fn lists_from_a_fresh_tally() {
     run.report();
     println!("tallied lists: {strays} checks with a broken tally among {lengths}");
     run.require(&numbers::of(Of::Order), 100);
+    run.require(&numbers::of(Of::Message), 100);
     assert_eq!(run.given(BAD_TALLY), strays);
-    assert!(lengths > 150_000 && strays > 15_000);
+    assert!(lengths > 225_000 && strays > 22_500);
+}
+
+/// One more check of something made up. Now and then there is one before it with a tally that is
+/// broken, which is no part of the list; tells how many.
+fn put_made_up<A: Arriving>(list: &mut List, run: &mut Run, make: fn(&mut Random) -> A) -> u64 {
+    let arrival = make(&mut run.random);
+    let stray = run.random.index(8) == 0;
+    if stray {
+        put_broken(run, &arrival, list.tally);
+    }
+    list.put(run, arrival);
+    stray.into()
 }
 
 /// The same arrival with the list's own tally, but for one number of it.
-fn put_broken(run: &mut Run, arrival: &Arrival, tally: Tally) {
+fn put_broken<A: Arriving>(run: &mut Run, arrival: &A, tally: Tally) {
     let mut numbers = tally.numbers();
     let place = run.random.index(4);
     let by = *run.random.pick(&[1, 2, LIMIT, 1 << 32, 1 << 63, u64::MAX]);
@@ -119,7 +131,7 @@ fn put_broken(run: &mut Run, arrival: &Arrival, tally: Tally) {
     hold_broken(run, &tallied);
 }
 
-fn hold_broken(run: &mut Run, tallied: &Tallied) {
+fn hold_broken<A: Arriving>(run: &mut Run, tallied: &Tallied<A>) {
     let expected = TalliedAnswer {
         answer: REFUSED,
         tally: tallied.tally,
@@ -134,9 +146,10 @@ fn lists_across_the_limit() {
     for round in 0..1_000 {
         let seen = LIMIT - 10 + round % 11; // to the limit itself
         let mut list = List::from(adding_up(&mut run.random, seen));
-        for _ in 0..20 {
-            let arrival = arrival(&mut run.random);
+        for _ in 0..10 {
+            let (arrival, message) = (arrival(&mut run.random), message(&mut run.random));
             list.put(&mut run, arrival);
+            list.put(&mut run, message);
         }
         list.finish();
         assert_eq!(list.tally.seen, LIMIT);
@@ -266,30 +279,34 @@ fn right_modulo_the_word(random: &mut Random) -> Tally {
     rotated(random, seen, [one, other, last])
 }
 
-/// Tallies of every sort, with arrivals of every sort: 12 comes before every other number.
+/// Tallies of every sort, with orders and messages of every sort: 12 comes before all others.
 #[test]
 fn tallies_of_every_sort() {
     let mut run = Run::new("tallies");
     for _ in 0..5_000 {
-        for (name, wrong, make) in SORTS {
-            let tallied = Tallied {
-                arrival: arrival(&mut run.random),
-                tally: make(&mut run.random),
-            };
-            if wrong {
-                hold_broken(&mut run, &tallied);
-                continue;
-            }
-            let mut list = List::from(tallied.tally);
-            list.put(&mut run, tallied.arrival);
-            list.finish();
-            assert_eq!(list.refused_by_12, 0, "{name}");
+        for sort in SORTS {
+            put_sort(&mut run, sort, arrival);
+            put_sort(&mut run, sort, message);
         }
     }
     run.report();
     let wrong = SORTS.iter().filter(|(_, wrong, _)| *wrong).count() as u64;
-    assert_eq!(run.comparisons, 5_000 * SORTS.len() as u64);
-    assert_eq!(run.given(BAD_TALLY), 5_000 * wrong);
+    assert_eq!(run.comparisons, 2 * 5_000 * SORTS.len() as u64);
+    assert_eq!(run.given(BAD_TALLY), 2 * 5_000 * wrong);
+}
+
+fn put_sort<A: Arriving>(run: &mut Run, (name, wrong, tally): Sort, make: fn(&mut Random) -> A) {
+    let tallied = Tallied {
+        arrival: make(&mut run.random),
+        tally: tally(&mut run.random),
+    };
+    if wrong {
+        return hold_broken(run, &tallied);
+    }
+    let mut list = List::from(tallied.tally);
+    list.put(run, tallied.arrival);
+    list.finish();
+    assert_eq!(list.refused_by_12, 0, "{name}");
 }
 
 /// Settings and market of any length, among refusals of every other sort.

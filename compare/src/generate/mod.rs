@@ -1,14 +1,16 @@
-//! Arrivals and quotes made up at random, so biased that the rules meet: legs that form the known
-//! shapes or nearly do, prices at the limits that checks draw, settings and markets at their own
-//! limits, and damage of every kind.
+//! Arrivals, messages and quotes made up at random, so biased that the rules meet: legs that form
+//! the known shapes or nearly do, prices at the limits that checks draw, settings and markets at
+//! their own limits, and damage of every kind.
 
 mod damage;
 mod legs;
+pub mod messages;
 mod quotes;
 mod values;
 
 pub use damage::damage;
 pub use legs::{draft, list_of};
+pub use messages::message;
 pub use quotes::quote;
 pub use values::{market, settings};
 

@@ -10,6 +10,8 @@ mod seeds;
 use compare::{
     arrival::{Answer, Arrival},
     case::Case,
+    fix,
+    message::Message,
     order, osi,
     quote::{Quote, QuoteAnswer},
     quote_check,
@@ -27,6 +29,16 @@ pub struct Order {
     counts_len: usize,
     price: i64,
     kind: u64,
+    stop: u64,
+    manual: u64,
+    opening: u64,
+}
+
+/// struct opc_fix.
+#[repr(C)]
+pub struct Fix {
+    message: *const u8,
+    message_len: usize,
     stop: u64,
     manual: u64,
     opening: u64,
@@ -67,6 +79,17 @@ unsafe fn arrival(order: &Order, terms: &Terms) -> Arrival {
         stop: order.stop,
         manual: order.manual,
         opening: order.opening,
+        settings: lent(terms.settings, terms.settings_len),
+        market: lent(terms.market, terms.market_len),
+    }
+}
+
+unsafe fn message(fix: &Fix, terms: &Terms) -> Message {
+    Message {
+        bytes: lent(fix.message, fix.message_len),
+        stop: fix.stop,
+        manual: fix.manual,
+        opening: fix.opening,
         settings: lent(terms.settings, terms.settings_len),
         market: lent(terms.market, terms.market_len),
     }
@@ -130,6 +153,25 @@ pub unsafe extern "C" fn second_check_order_tallied(
 }
 
 #[no_mangle]
+pub unsafe extern "C" fn second_check_fix(fix: &Fix, terms: &Terms) -> Answer {
+    fix::check(&message(fix, terms))
+}
+
+#[no_mangle]
+pub unsafe extern "C" fn second_check_fix_tallied(
+    fix: &Fix,
+    terms: &Terms,
+    tally: &mut Tally,
+) -> Answer {
+    let tallied = tally::check(&Tallied {
+        arrival: message(fix, terms),
+        tally: *tally,
+    });
+    *tally = tallied.tally;
+    tallied.answer
+}
+
+#[no_mangle]
 pub unsafe extern "C" fn second_check_quote(quote_of: &QuoteOf, terms: &Terms) -> QuoteAnswer {
     quote_check::check(&quote(quote_of, terms))
 }
@@ -142,6 +184,16 @@ fn print<C: Case>(case: &C) {
 #[no_mangle]
 pub unsafe extern "C" fn second_print_order(order: &Order, terms: &Terms, tally: Option<&Tally>) {
     let arrival = arrival(order, terms);
+    match tally {
+        Some(&tally) => print(&Tallied { arrival, tally }),
+        None => print(&arrival),
+    }
+}
+
+/// The same of a message.
+#[no_mangle]
+pub unsafe extern "C" fn second_print_fix(fix: &Fix, terms: &Terms, tally: Option<&Tally>) {
+    let arrival = message(fix, terms);
     match tally {
         Some(&tally) => print(&Tallied { arrival, tally }),
         None => print(&arrival),

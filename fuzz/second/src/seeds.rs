@@ -16,8 +16,9 @@ use std::{ffi::CStr, fs, path::Path};
 const RAW_CASES: usize = 100;
 const SHAPED_ROUNDS: usize = 400;
 
-/// As many bytes as the shaped form takes for most calls.
+/// As many bytes as the shaped form takes for most calls; a message takes more than its order.
 const SHAPED_BYTES: usize = 120;
+const SHAPED_MESSAGE_BYTES: usize = 180;
 
 /// The second byte of an input: 0 is the raw form. The third chooses how the call is made.
 const SHAPED: u8 = 1;
@@ -28,6 +29,8 @@ const WRITE: u8 = 1;
 const ORDER: u8 = 2;
 const TALLIED: u8 = 5;
 const QUOTE: u8 = 6;
+const FIX: u8 = 8;
+const FIX_TALLIED: u8 = 11;
 
 /// Writes one file for each seed.
 ///
@@ -49,6 +52,7 @@ fn all() -> Vec<Vec<u8>> {
     for expected in &cases.orders {
         seeds.push(order(&expected.case));
         seeds.push(tallied(&expected.case, [999_999, 0, 999_999, 0]));
+        seeds.push(message(&expected.case));
     }
     for expected in &cases.quotes {
         seeds.push(quote(&expected.case));
@@ -59,6 +63,8 @@ fn all() -> Vec<Vec<u8>> {
         let seen = kinds.iter().sum::<u64>() + random.between(0, 7) / 7;
         let tally = [seen, kinds[0], kinds[1], kinds[2]];
         seeds.push(tallied(&generate::arrival(&mut random), tally));
+        seeds.push(message(&generate::arrival(&mut random)));
+        seeds.push(tallied_message(&generate::arrival(&mut random), tally));
         seeds.push(quote(&generate::quote(&mut random)));
         let symbol = legs_of(&list_of(&mut random, 1))[0].0;
         seeds.push(read(&symbol));
@@ -67,6 +73,10 @@ fn all() -> Vec<Vec<u8>> {
     for _ in 0..SHAPED_ROUNDS {
         for entry in [READ, WRITE, ORDER, ORDER, ORDER, TALLIED, QUOTE, QUOTE] {
             let bytes = random.bytes(SHAPED_BYTES);
+            seeds.push([&[entry, SHAPED], &bytes[..]].concat());
+        }
+        for entry in [FIX, FIX, FIX_TALLIED] {
+            let bytes = random.bytes(SHAPED_MESSAGE_BYTES);
             seeds.push([&[entry, SHAPED], &bytes[..]].concat());
         }
     }
@@ -84,21 +94,60 @@ fn slices(seed: &mut Vec<u8>, settings: &[u64], market: &[u64]) {
     }
 }
 
+fn terms(seed: &mut Vec<u8>, arrival: &Arrival) {
+    numbers(seed, &[arrival.stop, arrival.manual, arrival.opening]);
+    slices(seed, &arrival.settings, &arrival.market);
+}
+
 fn order(arrival: &Arrival) -> Vec<u8> {
     let [symbols, counts] = [&arrival.symbols, &arrival.counts].map(Vec::as_slice);
     let [low, high] = (symbols.len() as u16).to_le_bytes();
     let mut seed = vec![ORDER, 0, 0, low, high, counts.len() as u8];
     seed.extend([symbols, counts].concat());
     seed.extend(arrival.price.to_le_bytes());
-    let flags = [arrival.kind, arrival.stop, arrival.manual, arrival.opening];
-    numbers(&mut seed, &flags);
-    slices(&mut seed, &arrival.settings, &arrival.market);
+    numbers(&mut seed, &[arrival.kind]);
+    terms(&mut seed, arrival);
     seed
 }
 
 fn tallied(arrival: &Arrival, tally: [u64; 4]) -> Vec<u8> {
     let mut seed = order(arrival);
     seed[0] = TALLIED;
+    numbers(&mut seed, &tally);
+    seed
+}
+
+/// The body of the order's message; the harness puts the frame around it. Here a bar is byte 1.
+fn body(arrival: &Arrival) -> Vec<u8> {
+    let kind = if arrival.kind == 0 { 2 } else { 1 };
+    let sign = if arrival.price < 0 { "-" } else { "" };
+    let mills = arrival.price.unsigned_abs();
+    let (dollars, rest) = (mills / 1000, mills % 1000);
+    let legs = arrival.legs();
+    let terms = format!("40={kind}|44={sign}{dollars}.{rest:03}|555={}|", legs.len());
+    let mut body = terms.into_bytes();
+    for (symbol, count) in legs {
+        let side = if count < 0 { 2 } else { 1 };
+        body.extend(b"600=");
+        body.extend(symbol);
+        body.extend(format!("|623={}|624={side}|", count.unsigned_abs()).bytes());
+    }
+    let end = |byte| if byte == b'|' { 1 } else { byte };
+    body.into_iter().map(end).collect()
+}
+
+fn message(arrival: &Arrival) -> Vec<u8> {
+    let body = body(arrival);
+    let [low, high] = (body.len() as u16).to_le_bytes();
+    let mut seed = vec![FIX, 0, 0, 1, low, high];
+    seed.extend(body);
+    terms(&mut seed, arrival);
+    seed
+}
+
+fn tallied_message(arrival: &Arrival, tally: [u64; 4]) -> Vec<u8> {
+    let mut seed = message(arrival);
+    seed[0] = FIX_TALLIED;
     numbers(&mut seed, &tally);
     seed
 }
