@@ -43,7 +43,7 @@ extern "C" {
 #endif
 
 /* Of this face: one more with each change of an entry, a struct, a number or a limit. */
-#define OPC_VERSION 2
+#define OPC_VERSION 3
 
 /* What a number says of an order, a message, a quote or a symbol. */
 enum opc_outcome {
@@ -563,6 +563,68 @@ static inline struct opc_answer opc_answer_fix_tallied(const struct opc_fix *fix
         (const uint64_t *)settings, OPC_SETTINGS_COUNT, (const uint64_t *)market, OPC_MARKET_COUNT,
         &answer.class_, &answer.shape, &answer.pairings, &tally->seen, &tally->refused,
         &tally->accepted, &tally->rejected);
+    return answer;
+}
+
+/*
+ * An auction pair: an agency order and its contra order, sent together. The mark is a flag: 0 is
+ * no, any other value yes.
+ */
+struct opc_pair {
+    struct opc_order agency;
+    struct opc_order contra;
+    uint64_t continue_unpaired; /* the agency order may pass though its contra order fails */
+};
+
+/* The answer to a pair: each order's own number, and 1 where that order passes, else 0. */
+struct opc_pair_answer {
+    uint64_t number;        /* of the agency order, as in enum opc_number */
+    uint64_t contra_number; /* of the contra order, likewise */
+    uint64_t agency_passes;
+    uint64_t contra_passes;
+};
+
+/*
+ * Checks both orders of a pair against the same settings and market. The fields, with their limits
+ * and units, are those of struct opc_order, twice, of struct opc_pair, opc_settings and opc_market,
+ * in the same sequence.
+ *
+ * Returns the number that opc_check_order gives for the agency order, and sets *contra_number to
+ * the one that it gives for the contra order. Each is the order's own, a refusal's too, whatever
+ * the other order is.
+ *
+ * *agency_passes and *contra_passes are set to
+ *   1 and 1  both numbers are OPC_ACCEPTED;
+ *   1 and 0  the agency order's number is OPC_ACCEPTED, the contra order's is not, refused or
+ *            rejected, and continue_unpaired is not 0;
+ *   0 and 0  otherwise: an agency order that fails stops both.
+ *
+ * The sequence of the legs within either order does not matter to any of the four.
+ */
+uint64_t OPC_CALL opc_check_pair(
+    const uint8_t *agency_symbols, size_t agency_symbols_len, const uint8_t *agency_counts,
+    size_t agency_counts_len, int64_t agency_price, uint64_t agency_kind, uint64_t agency_stop,
+    uint64_t agency_manual, uint64_t agency_opening, const uint8_t *contra_symbols,
+    size_t contra_symbols_len, const uint8_t *contra_counts, size_t contra_counts_len,
+    int64_t contra_price, uint64_t contra_kind, uint64_t contra_stop, uint64_t contra_manual,
+    uint64_t contra_opening, uint64_t continue_unpaired, const uint64_t *settings,
+    size_t settings_len, const uint64_t *market, size_t market_len, uint64_t *contra_number,
+    uint64_t *agency_passes, uint64_t *contra_passes);
+
+/* opc_check_pair, with pair, settings, market and answer in structs. */
+static inline struct opc_pair_answer opc_answer_pair(const struct opc_pair *pair,
+                                                     const struct opc_settings *settings,
+                                                     const struct opc_market *market) {
+    const struct opc_order *agency = &pair->agency;
+    const struct opc_order *contra = &pair->contra;
+    struct opc_pair_answer answer;
+    answer.number = opc_check_pair(
+        agency->symbols, agency->symbols_len, agency->counts, agency->counts_len, agency->price,
+        agency->kind, agency->stop, agency->manual, agency->opening, contra->symbols,
+        contra->symbols_len, contra->counts, contra->counts_len, contra->price, contra->kind,
+        contra->stop, contra->manual, contra->opening, pair->continue_unpaired,
+        (const uint64_t *)settings, OPC_SETTINGS_COUNT, (const uint64_t *)market, OPC_MARKET_COUNT,
+        &answer.contra_number, &answer.agency_passes, &answer.contra_passes);
     return answer;
 }
 

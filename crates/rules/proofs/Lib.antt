@@ -8,6 +8,8 @@ pub mod Handed
 pub mod Examples
 pub mod Edges
 pub mod Messages
+pub mod Pairs
 pub mod Demand1
 pub mod Demand2
 pub mod Tallying
+pub mod Pairing

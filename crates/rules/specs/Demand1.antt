@@ -13,6 +13,7 @@ use Rattle.rules.specs.declared.Settings.{Settings}
 use Rattle.rules.specs.declared.Market.{Market}
 use Rattle.rules.specs.declared.OrderAnswer.{OrderAnswer}
 use Rattle.rules.specs.declared.Mills.{Mills}
+use Rattle.rules.specs.declared.PairAnswer.{PairAnswer}
 use Rattle.rules.specs.declared.QuoteAnswer.{QuoteAnswer}
 use Rattle.rules.specs.declared.Tally.{Tally}
 use Rattle.rules.specs.declared.TalliedAnswer.{TalliedAnswer}
@@ -24,6 +25,7 @@ use Rattle.rules.specs.Kinds.{numbers, isRefused, isRejected, kindOf}
 use Rattle.rules.specs.Numbers.{named, refusals, rejections, checkOrder, checkSlices}
 use Rattle.rules.specs.Quote.{quoteRefusals, quoteRejections, checkQuote}
 use Rattle.rules.specs.Fix.{messageRefusals, MessageInputs, checkFix}
+use Rattle.rules.specs.Pair.{PairOrder, checkPair}
 use Rattle.rules.specs.Tally.{Call, order, message, checkTallied}
 
 -- the symbol reader
@@ -84,6 +86,18 @@ messageNumbers = 0 ∷ (named (messageRefusals []) ++ legNumbers)
 
 abbrev pub MessageCheck : Type 0
 MessageCheck = (a : MessageInputs) (m : List ℕ) → OrderAnswers messageNumbers (checkFix a m)
+
+-- the check on a pair (document 02, S-2), which has no number of its own: both orders' numbers stay, "a refusal's too", and all else is zero where the agency order is refused
+pub record PairAnswers (r : PairAnswer) : Type 0 where
+  pub agency : List·Memᴰ (r .agency .number) orderNumbers
+  pub contra : List·Memᴰ (r .contra .number) orderNumbers
+  pub agencyRefused : isRefused (r .agency .number) ≡ true → (r .agency .passes ≡ 0) × (r .contra .passes ≡ 0)
+  pub contraRefused : isRefused (r .contra .number) ≡ true → r .contra .passes ≡ 0
+  -- each side passes or not
+  pub marks : List·Memᴰ (r .agency .passes) (0 ∷ 1 ∷ []) × List·Memᴰ (r .contra .passes) (0 ∷ 1 ∷ [])
+
+abbrev pub PairCheck : Type 0
+PairCheck = (st : Settings) (m : Market) (unpaired : ℕ) (agency contra : PairOrder) → PairAnswers (checkPair st m unpaired agency contra)
 
 -- the quote check
 abbrev pub quoteNumbers : List ℕ

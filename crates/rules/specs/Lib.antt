@@ -15,9 +15,11 @@ pub mod Valid
 pub mod Quote
 pub mod Fix
 pub mod Tally
+pub mod Pair
 pub mod Examples
 pub mod Edges
 pub mod Texts
 pub mod Messages
+pub mod Pairs
 pub mod Demand1
 pub mod Demand2

@@ -137,3 +137,15 @@ pub struct TalliedAnswer {
     pub answer: OrderAnswer,
     pub tally: Tally,
 }
+
+// One order of a pair: its own number, and 1 where it passes, else 0.
+pub struct PairSide {
+    pub number: u64,
+    pub passes: u64,
+}
+
+// What the check on a pair answers.
+pub struct PairAnswer {
+    pub agency: PairSide,
+    pub contra: PairSide,
+}

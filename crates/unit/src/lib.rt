@@ -1,6 +1,7 @@
 // The entries for a host in C: numbers and slices in, every lent number set on every call.
 pub mod messages;
 pub mod orders;
+pub mod pairs;
 pub mod quotes;
 pub mod symbols;
 pub mod tallied_messages;

@@ -1,0 +1,115 @@
+-- Document 02, S-2, by computing its definitions: each way that a pair can go, with the numbers of both orders.
+use mathlib.Core.List.{List, [], _∷_}
+use Prim.Native.Nat.{ℕ}
+use lib.IntN.{ℤ, pos, negℤ}
+use Rattle.rules.specs.declared.Market.{Market}
+use Rattle.rules.specs.declared.PairAnswer.{PairAnswer}
+use Rattle.rules.specs.Order.{Lent, symbolsOf, countsOf}
+use Rattle.rules.specs.Market.{settingsOf, marketOf}
+use Rattle.rules.specs.Examples.{exampleSettings, exampleMarket, calls, puts}
+use Rattle.rules.specs.Edges.{Hold}
+use Rattle.rules.specs.Pair.{PairOrder, paired, checkPair}
+
+abbrev minus : ℕ → ℤ
+minus n = negℤ (pos n)
+
+-- each order's number, and whether it passes
+abbrev answer : ℕ → ℕ → ℕ → ℕ → PairAnswer
+answer agency a contra c = record { agency = record { number = agency; passes = a }; contra = record { number = contra; passes = c } }
+
+-- an order by its legs, price, kind and flags
+abbrev ordered : List Lent → ℤ → ℕ → ℕ → ℕ → ℕ → PairOrder
+ordered ls price kind stop manual opening =
+    record { symbols = symbolsOf ls; counts = countsOf ls; price = price; kind = kind; stop = stop; manual = manual; opening = opening }
+
+-- a limit order with no flags
+abbrev limit : ℤ → List Lent → PairOrder
+limit price ls = ordered ls price 0 0 0 0
+
+-- a vertical bought and sold: at a sound price 0, at a price of the other sign 23
+abbrev bought : ℤ → PairOrder
+bought price = limit price (calls (pos 1) 20 ∷ calls (minus 1) 30 ∷ [])
+
+abbrev sold : ℤ → PairOrder
+sold price = limit price (calls (minus 1) 20 ∷ calls (pos 1) 30 ∷ [])
+
+-- refused ones: no leg; a count of one byte, which is no count
+abbrev empty : PairOrder
+empty = limit (pos 5000) []
+
+abbrev broken : PairOrder
+broken = record { symbols = []; counts = 1 ∷ []; price = pos 5000; kind = 0; stop = 0; manual = 0; opening = 0 }
+
+-- under the settings and the market of the examples
+abbrev plain : ℕ → PairOrder → PairOrder → PairAnswer
+plain unpaired agency contra = checkPair (exampleSettings 0) exampleMarket unpaired agency contra
+
+-- where the NBO is 1,200, without the mark; a call bought above 1,250 then gets 25, if it has neither stop nor manual flag
+abbrev near : Market
+near = marketOf (1 ∷ 0 ∷ 0 ∷ 0 ∷ 0 ∷ 1200 ∷ 0 ∷ 0 ∷ 0 ∷ [])
+
+abbrev offered : PairOrder → PairOrder → PairAnswer
+offered agency contra = checkPair (exampleSettings 0) near 0 agency contra
+
+abbrev call : ℕ → ℕ → ℕ → PairOrder
+call price stop manual = ordered (calls (pos 1) 20 ∷ []) (pos price) 0 stop manual 0
+
+-- a put bought at its strike by a market order: 20, but in the opening process
+abbrev put : ℕ → PairOrder
+put opening = ordered (puts (pos 1) 18 ∷ []) (pos 18000) 1 0 0 opening
+
+-- a debit received: 23, but of a market order
+abbrev received : ℕ → PairOrder
+received kind = ordered (calls (pos 1) 20 ∷ calls (minus 1) 30 ∷ []) (minus 5000) kind 0 0 0
+
+pub record Pairs : Type 0 where
+  -- "If both get 0, both pass, else neither"; of a marked pair the agency order passes where it alone gets 0. Any value but 0 is the mark; a refused order fails as a rejected one does.
+  pub passing : Hold (
+      (paired 0 0 0, answer 0 1 0 1)
+      ∷ (paired 1 0 0, answer 0 1 0 1)
+      ∷ (paired 0 0 23, answer 0 0 23 0)
+      ∷ (paired 1 0 23, answer 0 1 23 0)
+      ∷ (paired 256 0 23, answer 0 1 23 0)
+      ∷ (paired 0 0 9, answer 0 0 9 0)
+      ∷ (paired 1 0 9, answer 0 1 9 0)
+      ∷ (paired 0 23 0, answer 23 0 0 0)
+      ∷ (paired 1 23 0, answer 23 0 0 0)
+      ∷ (paired 0 9 0, answer 9 0 0 0)
+      ∷ (paired 1 9 0, answer 9 0 0 0)
+      ∷ (paired 0 23 9, answer 23 0 9 0)
+      ∷ (paired 1 23 9, answer 23 0 9 0)
+      ∷ (paired 1 9 23, answer 9 0 23 0)
+      ∷ (paired 1 23 23, answer 23 0 23 0)
+      ∷ (paired 1 9 9, answer 9 0 9 0)
+      ∷ [])
+  -- a vertical and its reverse, at prices of the right and of the wrong sign; refused ones
+  pub numbers : Hold (
+      (plain 0 (bought (pos 5000)) (sold (minus 5000)), answer 0 1 0 1)
+      ∷ (plain 0 (bought (pos 5000)) (sold (pos 5000)), answer 0 0 23 0)
+      ∷ (plain 1 (bought (pos 5000)) (sold (pos 5000)), answer 0 1 23 0)
+      ∷ (plain 1 (bought (minus 5000)) (sold (minus 5000)), answer 23 0 0 0)
+      ∷ (plain 1 (bought (minus 5000)) (sold (pos 5000)), answer 23 0 23 0)
+      ∷ (plain 0 (bought (pos 5000)) empty, answer 0 0 3 0)
+      ∷ (plain 1 (bought (pos 5000)) empty, answer 0 1 3 0)
+      ∷ (plain 1 empty (sold (minus 5000)), answer 3 0 0 0)
+      ∷ (plain 1 broken empty, answer 1 0 3 0)
+      ∷ [])
+  -- "with the same settings and market": each is seen in the numbers of both orders
+  pub terms : Hold (
+      (offered (call 1250 0 0) (call 1251 0 0), answer 0 0 25 0)
+      ∷ (offered (call 1251 0 0) (call 1250 0 0), answer 25 0 0 0)
+      ∷ (checkPair (exampleSettings 0) exampleMarket 0 (call 1251 0 0) (call 1251 0 0), answer 0 1 0 1)
+      ∷ (checkPair (settingsOf []) exampleMarket 1 (call 1250 0 0) (call 1250 0 0), answer 9 0 9 0)
+      ∷ (checkPair (exampleSettings 0) (marketOf []) 1 (call 1250 0 0) (call 1250 0 0), answer 10 0 10 0)
+      ∷ [])
+  -- price, kind and flags are each order's own
+  pub own : Hold (
+      (offered (call 1251 1 0) (call 1251 0 0), answer 0 0 25 0)
+      ∷ (offered (call 1251 0 0) (call 1251 1 0), answer 25 0 0 0)
+      ∷ (offered (call 1251 0 1) (call 1251 0 0), answer 0 0 25 0)
+      ∷ (offered (call 1251 0 0) (call 1251 0 1), answer 25 0 0 0)
+      ∷ (offered (put 1) (put 0), answer 0 0 20 0)
+      ∷ (offered (put 0) (put 1), answer 20 0 0 0)
+      ∷ (offered (received 1) (received 0), answer 0 0 23 0)
+      ∷ (offered (received 0) (received 1), answer 23 0 0 0)
+      ∷ [])
