@@ -17,13 +17,6 @@ pub fn reader<'a>(message: &'a [u8], at: usize) -> FieldReader<'a>
     FieldReader { message, at }
 }
 
-// The reader's position.
-pub fn position<'a>(r: FieldReader<'a>) -> usize
-    ensures { λ n. ⌜ n ≡ r .entry .at ⌝ }
-{
-    r.at
-}
-
 // The field at the reader's position.
 pub fn read<'a>(r: FieldReader<'a>) -> Field
     ensures { λ f. ⌜ f ≡ fieldAt (now (r .entry .message)) (r .entry .at) ⌝ }

@@ -10,7 +10,7 @@ use borrow.Author.Tests.{eqb-true, not-true, not-false}
 use Rattle.rules.specs.declared.Order.{Order}
 use Rattle.rules.specs.declared.Terms.{Terms}
 use Rattle.rules.specs.Lists.{all, sameNumbers}
-use Rattle.rules.specs.Order.{recordLegs, termsOf}
+use Rattle.rules.specs.Order.{recordLegs, Recorded, termsOf}
 use Rattle.rules.specs.Numbers.{firstOf, refused, checkLegs, checkOrder}
 use Rattle.rules.specs.Fix.{sumDigits, fieldsOf, isField, areFields, hasFrame, bodyOf, inSequence, isPrice, hasForm, isFormed, priceSaid, legsSaid, SaidOrder, orderIn, messageRefusals, messageRefusal, MessageInputs, checkFix}
 use Rattle.rules.proofs.Tests.{and-both, not-eq}
@@ -23,7 +23,7 @@ use Rattle.scan.specs.Scanning.{scanned}
 use Rattle.scan_laws.specs.Message.{isFramedBy, Said}
 use Rattle.scan_laws.proofs.Bodies.{groups-all, value-formed, needed, groups-tags}
 use Rattle.scan_laws.proofs.Message.{framed, tail-inside, sequence, formed, said}
-use Rattle.message_order.specs.Groups.{HasGroups, Recorded}
+use Rattle.message_order.specs.Groups.{groupsAt, HasGroups}
 use Rattle.order_check.proofs.Laws.{outcome-none, outcome-some, too-many-legs}
 
 -- ---- the frame, by what is tested before length and sum
@@ -137,7 +137,7 @@ module _ (m : List ℕ) (h : Head) (s : Scan) (found : (h ≡ headOf m) × (s �
       fix-too-many h = fix-said ∙ too-many-legs (a .settings) (a .market) t (length (o .legs)) (o .legs) (rw many h)
 
       pub fix-record : (u : Terms) (r : Order) → u ≡ termsOf (priceSaid (slice (s .places .start) (s .places .end) m)) (cond (s .places .market) 1 0) (a .stop) (a .manual) (a .opening)
-          → Recorded m (s .places .groups) (s .places .legs) u r → checkFix a m ≡ checkOrder (a .settings) (a .market) r
+          → Recorded (s .places .legs) (legsSaid (groupsAt m (s .places .groups) (s .places .legs))) u r → checkFix a m ≡ checkOrder (a .settings) (a .market) r
       unfolding checkOrder orderIn
       fix-record u r e k =
           let legs : recordLegs r ≡ o .legs = k .legs ∙ ap legsSaid (order .groups) in

@@ -1,15 +1,12 @@
--- The groups of a message, and the order record made of them.
+-- The groups of a message.
 use mathlib.Core.Path.{_≡_}
 use mathlib.Core.List.{List, map}
 use mathlib.Core.Bool.{true}
 use Prim.Native.Nat.{ℕ, _*_}
 use lib.ListN.{length, take, drop}
-use Rattle.rules.specs.declared.Terms.{Terms}
 use Rattle.rules.specs.declared.RawLeg.{RawLeg}
-use Rattle.rules.specs.declared.Order.{Order}
 use Rattle.rules.specs.Lists.{all}
-use Rattle.rules.specs.Order.{recordLegs}
-use Rattle.rules.specs.Fix.{fieldsOf, isField, isFormed, tagOf, groupTags, isNumber, legSaid, legsSaid}
+use Rattle.rules.specs.Fix.{fieldsOf, isField, isFormed, tagOf, groupTags, isNumber, legSaid}
 use Rattle.fields.specs.declared.Field.{Field}
 use Rattle.fields.specs.Fields.{valueIn, Inside}
 
@@ -22,12 +19,6 @@ pub record HasGroups (m : List ℕ) (at n : ℕ) : Type 0 where
   pub fields : all isField (groupsAt m at n) ≡ true
   pub formed : all isFormed (groupsAt m at n) ≡ true
   pub tags : map tagOf (groupsAt m at n) ≡ groupTags n
-
--- `o` is the record of the legs that `n` groups say, with the terms `t`
-pub record Recorded (m : List ℕ) (at n : ℕ) (t : Terms) (o : Order) : Type 0 where
-  pub legs : recordLegs o ≡ legsSaid (groupsAt m at n)
-  pub len : o .len ≡ n
-  pub terms : o .terms ≡ t
 
 -- the three fields of a group stand in the message, with a symbol of 21 bytes and a ratio that is a number
 pub record IsGroup (m : List ℕ) (symbol ratio side : Field) : Type 0 where

@@ -9,7 +9,9 @@ use values::is_one;
 use values::number_of;
 ghost use mathlib.Core.Path.{_≡_};
 ghost use Prim.Native.Nat.{_≤_};
-ghost use Rattle.message_order.specs.Groups.{HasGroups, Recorded, IsGroup, legOfFields};
+ghost use Rattle.rules.specs.Order.{Recorded};
+ghost use Rattle.rules.specs.Fix.{legsSaid};
+ghost use Rattle.message_order.specs.Groups.{groupsAt, HasGroups, IsGroup, legOfFields};
 
 // The leg of a group's three fields.
 fn leg_said(message: &[u8], symbol: Field, ratio: Field, side: Field) -> RawLeg
@@ -36,7 +38,7 @@ fn leg_said(message: &[u8], symbol: Field, ratio: Field, side: Field) -> RawLeg
 // on is copied whole.
 pub fn order_said(message: &[u8], at: usize, n: usize, terms: Terms) -> Order
     requires { ⌜ (n ≤ 16) × HasGroups (now message) at n ⌝ }
-    ensures { λ r. ⌜ Recorded (now (message .entry)) at n terms r ⌝ }
+    ensures { λ r. ⌜ Recorded n (legsSaid (groupsAt (now (message .entry)) at n)) terms r ⌝ }
 {
     let blank = RawLeg {
         bought: false,

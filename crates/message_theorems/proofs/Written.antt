@@ -12,11 +12,11 @@ use Rattle.rules.specs.declared.RawLeg.{RawLeg}
 use Rattle.rules.specs.Lists.{All, all, any, sameNumbers}
 use Rattle.rules.specs.Numerals.{value, numeral}
 use Rattle.rules.specs.Numbers.{firstOf, outcome}
-use Rattle.rules.specs.Fix.{bytesOf, leadingDigits, isField, tagOf, valueOf, isFrameTag, bodyOf, howOften, before, valueAt, behind, numberSaid, legNumber, groupFields, behindGroups, groupTags, isGroupTag, inSequence, one, two, isOneOrTwo, hasForm, isFormed, legsSaid, priceSaid, kindSaid, SaidOrder, orderIn, messageRefusal, checkFix, digitsFor, decimal, fieldFor, priceFor, groupsFor, bodyFor, behind9, messageOf}
-use Rattle.rules.proofs.Tests.{or-neither}
+use Rattle.rules.specs.Fix.{bytesOf, leadingDigits, isField, tagOf, valueOf, isFrameTag, bodyOf, howOften, before, valueAt, behind, numberSaid, legNumber, groupFields, behindGroups, groupTags, isGroupTag, isNeededTag, isFurther, inSequence, one, two, isOneOrTwo, hasForm, isFormed, legsSaid, priceSaid, kindSaid, SaidOrder, orderIn, messageRefusal, checkFix, digitsFor, decimal, fieldFor, priceFor, groupsFor, bodyFor, behind9, messageOf}
+use Rattle.rules.proofs.Tests.{not-eq, or-neither}
 use Rattle.laws.proofs.Sorting.{all-append, all-weaken}
 use Rattle.message_theorems.specs.Groups.{IsPart}
-use Rattle.message_theorems.specs.Written.{IsSayable, InForm, isNeeded, IsFurther, Written}
+use Rattle.message_theorems.specs.Written.{IsSayable, InForm, IsFurther, Written}
 use Rattle.laws.proofs.Lists.{all-pass, none-pass, every-passes, same-self}
 use Rattle.message_theorems.proofs.Laws.{isOfGroup}
 use Rattle.message_theorems.proofs.Framed.{Sound, right-frame, frame-body}
@@ -27,8 +27,13 @@ IsOneOrTwo v = isOneOrTwo v ≡ true
 
 -- ---- further fields
 
--- a further tag has no form
-no-form : (t : ℕ) (v : List ℕ) → isNeeded t ≡ false → hasForm t v ≡ true
+-- a further tag is none of the frame's, and none that is needed
+further-tag : (t : ℕ) → isFurther t ≡ true → (isFrameTag t ≡ false) × (isNeededTag t ≡ false)
+unfolding isFurther
+further-tag t h = or-neither (isFrameTag t) _ (not-eq _ h)
+
+-- it has no form
+no-form : (t : ℕ) (v : List ℕ) → isNeededTag t ≡ false → hasForm t v ≡ true
 unfolding hasForm
 no-form t v h =
     let a = or-neither _ (isGroupTag t) h in
@@ -39,20 +44,20 @@ no-form t v h =
     rw (c .0, c .1, b .1, d .1, e .0, e .1)
 
 further-sound : (f : List ℕ) → IsFurther f → Sound f
-further-sound f (a, b, c) = let n = or-neither (isFrameTag (tagOf f)) _ c in (a, b, n .0, no-form (tagOf f) (valueOf f) (n .1))
+further-sound f (a, b, c) = let n = further-tag (tagOf f) c in (a, b, n .0, no-form (tagOf f) (valueOf f) (n .1))
 
 -- no field has this tag
 abbrev Lacks : ℕ → List (List ℕ) → Type 0
 Lacks t fs = any (λ f. eqb (tagOf f) t) fs ≡ false
 
-further-lack : (t : ℕ) → isNeeded t ≡ true → (fs : List (List ℕ)) → All IsFurther fs → Lacks t fs
+further-lack : (t : ℕ) → isNeededTag t ≡ true → (fs : List (List ℕ)) → All IsFurther fs → Lacks t fs
 further-lack t h = none-pass (λ f. eqb (tagOf f) t) other
   where
     other : (f : List ℕ) → IsFurther f → eqb (tagOf f) t ≡ false
-    other f (a, b, c) = ne-eqb (tagOf f) t (λ e. true≢false (sym h ∙ ap isNeeded (sym e) ∙ or-neither (isFrameTag (tagOf f)) _ c .1))
+    other f (a, b, c) = ne-eqb (tagOf f) t (λ e. true≢false (sym h ∙ ap isNeededTag (sym e) ∙ further-tag (tagOf f) c .1))
 
 further-group : (f : List ℕ) → IsFurther f → isOfGroup f ≡ false
-further-group f (a, b, c) = let t = tagOf f in or-neither (eqb t 40 || eqb t 44 || eqb t 555) _ (or-neither (isFrameTag t) _ c .1) .1
+further-group f (a, b, c) = let t = tagOf f in or-neither (eqb t 40 || eqb t 44 || eqb t 555) _ (further-tag t c .1) .1
 
 -- fields that lack a tag are passed by
 record Past (t : ℕ) (xs ys : List (List ℕ)) : Type 0 where
@@ -168,11 +173,11 @@ module _ (front back : List (List ℕ)) (o : SaidOrder) (hf : All IsFurther fron
         ),
       )
 
-  at-front : (t : ℕ) → isNeeded t ≡ true → Past t front needed
+  at-front : (t : ℕ) → isNeededTag t ≡ true → Past t front needed
   at-front t h = past t front needed (further-lack t h front hf)
 
   -- a tag that the fields before the groups have once
-  once : (t : ℕ) → isNeeded t ≡ true → eqb 600 t ≡ false → eqb 623 t ≡ false → eqb 624 t ≡ false
+  once : (t : ℕ) → isNeededTag t ≡ true → eqb 600 t ≡ false → eqb 623 t ≡ false → eqb 624 t ≡ false
       → howOften t needed ≡ suc (howOften t (groups ++ back)) → eqb (howOften t body) 1 ≡ true
   once t h a b c e =
       let g = past t groups back (groups-lack t a b c (o .legs)) .often in

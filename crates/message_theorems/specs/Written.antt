@@ -1,14 +1,13 @@
 -- A message written for an order says that order: 30, 31 and 32 do not turn it away.
 use mathlib.Core.Path.{_≡_}
 use mathlib.Core.List.{List}
-use mathlib.Core.Bool.{Bool, true, false, _||_}
+use mathlib.Core.Bool.{true}
 use Prim.Native.Nat.{ℕ, _≤_, _<_, _^_}
 use lib.ListN.{length}
-use lib.Dec.{eqb}
 use Rattle.rules.specs.declared.RawLeg.{RawLeg}
 use Rattle.rules.specs.Lists.{All}
 use Rattle.rules.specs.Order.{priceOf}
-use Rattle.rules.specs.Fix.{isField, tagOf, isFrameTag, isGroupTag, bytesOf, SaidOrder, orderOf, messageRefusal, bodyFor, behind9, messageOf, MessageInputs, checkSaid, checkFix}
+use Rattle.rules.specs.Fix.{isField, tagOf, isFurther, bytesOf, SaidOrder, orderOf, messageRefusal, bodyFor, behind9, messageOf, MessageInputs, checkSaid, checkFix}
 use Rattle.message_theorems.specs.Groups.{IsPart}
 
 -- "21 symbol bytes", and a ratio of at most 15 digits
@@ -21,12 +20,9 @@ pub record InForm (o : SaidOrder) : Type 0 where
   pub price : priceOf (o .price) .size .0 < 10 ^ 18
   pub legs : All IsSayable (o .legs)
 
--- a further field: its tag is neither the frame's nor needed
-abbrev pub isNeeded : ℕ → Bool
-isNeeded t = eqb t 40 || eqb t 44 || eqb t 555 || isGroupTag t
-
+-- a further field
 abbrev pub IsFurther : List ℕ → Type 0
-IsFurther f = (isField f ≡ true) × IsPart f × (isFrameTag (tagOf f) || isNeeded (tagOf f) ≡ false)
+IsFurther f = (isField f ≡ true) × IsPart f × (isFurther (tagOf f) ≡ true)
 
 -- what is promised of a message
 pub record Says (m : List ℕ) (o : SaidOrder) : Type 0 where

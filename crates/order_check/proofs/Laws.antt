@@ -13,12 +13,11 @@ use Rattle.rules.specs.declared.Terms.{Terms}
 use Rattle.rules.specs.declared.Settings.{Settings}
 use Rattle.rules.specs.declared.Market.{Market}
 use Rattle.rules.specs.declared.OrderAnswer.{OrderAnswer}
-use Rattle.rules.specs.Order.{rawLegs, recordLegs, legOf, legsOf}
+use Rattle.rules.specs.Order.{rawLegs, recordLegs, Recorded, legOf, legsOf}
 use Rattle.rules.specs.Pairing.{byStrike}
 use Rattle.rules.specs.Market.{settingsHold, marketHolds}
 use Rattle.rules.specs.Valid.{AreValid}
 use Rattle.rules.specs.Numbers.{firstOf, refusal, judged, refused, outcome, checkLegs, checkOrder, areWhole, checkSlices}
-use Rattle.order_record.specs.Slices.{Recorded}
 use Rattle.sorting.specs.Keys.{sortKeys, withPlaces}
 use Rattle.keys.specs.Tags.{tagOf, legsIn, ValidTags, Arranged}
 use Rattle.arranging.proofs.Valid.{rootOf, valid-tags, valid-legs}
@@ -61,7 +60,7 @@ module _ (st : Settings) (m : Market) where
     pub too-many : areWhole symbols counts ≡ true → 16 < length counts / 8 → checkSlices st m t symbols counts ≡ refused 3
     too-many h k = let n = length counts / 8 in whole h ∙ too-many-legs t n (rawLegs n symbols counts) k
 
-    pub as-record : areWhole symbols counts ≡ true → (o : Order) → Recorded (length counts / 8) symbols counts t o → checkSlices st m t symbols counts ≡ checkOrder st m o
+    pub as-record : areWhole symbols counts ≡ true → (o : Order) → Recorded (length counts / 8) (rawLegs (length counts / 8) symbols counts) t o → checkSlices st m t symbols counts ≡ checkOrder st m o
     unfolding checkOrder
     as-record h o r = whole h ∙ sym (rw (r .legs, r .len, r .terms))
 

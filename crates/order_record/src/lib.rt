@@ -7,8 +7,8 @@ use rules::Terms;
 ghost use mathlib.Core.Path.{_≡_};
 ghost use Prim.Native.Nat.{_*_, _≤_};
 ghost use lib.ListN.{length};
+ghost use Rattle.rules.specs.Order.{rawLegs, Recorded};
 ghost use Rattle.rules.specs.Numbers.{areWhole};
-ghost use Rattle.order_record.specs.Slices.{Recorded};
 
 // Whether the counts are 8 bytes each, with 21 symbol bytes to each count.
 pub fn are_whole(symbols: &[u8], counts: &[u8]) -> bool
@@ -23,7 +23,7 @@ pub fn are_whole(symbols: &[u8], counts: &[u8]) -> bool
 // The order record of `n` legs. Each leg is stored in place: a record that is handed on is copied whole.
 pub fn order_of(symbols: &[u8], counts: &[u8], n: usize, terms: Terms) -> Order
     requires { ⌜ (n ≤ 16) × (length (now symbols) ≡ 21 * n) × (length (now counts) ≡ 8 * n) ⌝ }
-    ensures { λ r. ⌜ Recorded n (now (symbols .entry)) (now (counts .entry)) terms r ⌝ }
+    ensures { λ r. ⌜ Recorded n (rawLegs n (now (symbols .entry)) (now (counts .entry))) terms r ⌝ }
 {
     let blank = RawLeg {
         bought: false,

@@ -160,6 +160,14 @@ groupTags (suc n) = 600 ∷ 623 ∷ 624 ∷ groupTags n
 abbrev pub isGroupTag : ℕ → Bool
 isGroupTag t = eqb t 600 || eqb t 623 || eqb t 624
 
+-- a tag that "The body needs"
+abbrev pub isNeededTag : ℕ → Bool
+isNeededTag t = eqb t 40 || eqb t 44 || eqb t 555 || isGroupTag t
+
+-- "further tags": neither the frame's nor a needed one
+unfoldable pub isFurther : ℕ → Bool
+isFurther t = not (isFrameTag t || isNeededTag t)
+
 -- no needed tag is "missing, repeated or out of sequence". "A 600, 623 or 624 elsewhere, and any other tag from 555 to its last 624, counts as out of sequence; further tags are stepped over."
 unfoldable pub inSequence : List (List ℕ) → Bool
 inSequence body =

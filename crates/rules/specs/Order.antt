@@ -1,4 +1,5 @@
 -- Document 01, Order.
+use mathlib.Core.Path.{_≡_}
 use mathlib.Core.List.{List, [], _∷_, _++_, map}
 use mathlib.Core.Bool.{Bool, true, false, cond, not}
 use Prim.Native.Nat.{ℕ, zero, suc, _+_, _-_, _*_, _/_, _%_, _^_}
@@ -53,6 +54,12 @@ rawLegs (suc n) symbols counts = rawLeg (take 21 symbols) (take 8 counts) ∷ ra
 -- "An order record carries up to 16 legs"
 abbrev pub recordLegs : Order → List RawLeg
 recordLegs o = take (o .len) (o .legs)
+
+-- `o` is the record of the legs `rs`, `n` in number, with the terms `t`
+pub record Recorded (n : ℕ) (rs : List RawLeg) (t : Terms) (o : Order) : Type 0 where
+  pub legs : recordLegs o ≡ rs
+  pub len : o .len ≡ n
+  pub terms : o .terms ≡ t
 
 -- "The price is for one unit: positive paid (net debit), negative received (net credit)"
 unfoldable pub priceOf : ℤ → Price

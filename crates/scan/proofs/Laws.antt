@@ -10,14 +10,14 @@ use borrow.Author.Tests.{eq-eqb, ne-eqb, eqb-true}
 use Rattle.fields.specs.declared.Field.{Field}
 use Rattle.fields.specs.Fields.{fieldAt, valueIn}
 use Rattle.fields.proofs.Laws.{forward}
-use Rattle.rules.specs.Fix.{hasForm}
+use Rattle.rules.specs.Fix.{isFurther, hasForm}
 use Rattle.rules.proofs.Tests.{and-both, and-true, or-false, not-eq}
 use Rattle.frame.specs.Frame.{tailStep}
 use Rattle.frame.proofs.Laws.{step-continued}
 use Rattle.groups.specs.Sequence.{sequenceStep}
 use Rattle.groups.proofs.Laws.{further-outside}
 use Rattle.scan.specs.declared.Scan.{Scan}
-use Rattle.scan.specs.Scanning.{legsIn, isFurther, placesStep, stepOf, scanFrom}
+use Rattle.scan.specs.Scanning.{legsIn, placesStep, stepOf, scanFrom}
 
 -- the field that was read at a place
 module _ (m : List ℕ) (at : ℕ) (f : Field) (e : f ≡ fieldAt m at) where

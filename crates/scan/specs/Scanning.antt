@@ -5,7 +5,7 @@ use Prim.Native.Nat.{ℕ, zero, suc}
 use lib.ListN.{length}
 use lib.Dec.{eqb}
 use Rattle.rules.specs.Lists.{sameNumbers}
-use Rattle.rules.specs.Fix.{isFrameTag, isGroupTag, one, numberSaid, hasForm}
+use Rattle.rules.specs.Fix.{one, numberSaid, hasForm}
 use Rattle.fields.specs.declared.Field.{Field}
 use Rattle.fields.specs.Fields.{fieldAt, valueIn}
 use Rattle.frame.specs.Frame.{noTail, tailStep}
@@ -22,10 +22,6 @@ begun at = record { next = at; tail = noTail; sequence = noneSeen; formed = true
 -- the number of groups that a field says
 abbrev pub legsIn : List ℕ → Field → ℕ
 legsIn m f = cond (eqb (f .tag) 555) (numberSaid (valueIn m f)) 0
-
--- a further tag: neither the frame's nor a needed one
-unfoldable pub isFurther : ℕ → Bool
-isFurther t = not (isFrameTag t || (eqb t 40 || eqb t 44 || eqb t 555) || isGroupTag t)
 
 unfoldable pub placesStep : List ℕ → Places → Field → Places
 placesStep m p f =

@@ -17,9 +17,9 @@ ghost use mathlib.Core.Path.{_≡_};
 ghost use Prim.Native.Nat.{_<_};
 ghost use lib.ListN.{length};
 ghost use Rattle.rules.specs.Lists.{sameNumbers};
-ghost use Rattle.rules.specs.Fix.{one, hasForm};
+ghost use Rattle.rules.specs.Fix.{isFurther, one, hasForm};
 ghost use Rattle.fields.specs.Fields.{Inside, valueIn};
-ghost use Rattle.scan.specs.Scanning.{begun, legsIn, isFurther, placesStep, stepOf, scanned};
+ghost use Rattle.scan.specs.Scanning.{begun, legsIn, placesStep, stepOf, scanned};
 
 // Where the values stand that the order is made of.
 pub struct Places {

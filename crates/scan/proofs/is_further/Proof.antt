@@ -1,7 +1,7 @@
 -- The tag decides: each arm's tags are the definition's, and a further tag is none of them.
 use borrow.Author.Tests.{ne-eqb}
 use mathlib.Core.Logic.{inl, inr, ⊎-elim}
-use Rattle.scan.specs.Scanning.{isFurther}
+use Rattle.rules.specs.Fix.{isFurther}
 use Rattle.scan.proofs.is_further.Statement.{statement}
 use Rattle.scan.proofs.is_further.Tie as tie
 
