@@ -71,9 +71,21 @@ static inline const char *shape_name(uint64_t shape) {
     return name_in(names, COUNT(names), shape);
 }
 
+/* Of an order of a pair. */
+static inline const char *passes_name(uint64_t passes) {
+    static const char *const names[] = {"stopped", "passes"};
+    return name_in(names, COUNT(names), passes);
+}
+
 static inline bool same_answer(const struct opc_answer *a, const struct opc_answer *b) {
     return a->number == b->number && a->class_ == b->class_ && a->shape == b->shape &&
            a->pairings == b->pairings;
+}
+
+static inline bool same_pair_answer(const struct opc_pair_answer *a,
+                                    const struct opc_pair_answer *b) {
+    return a->number == b->number && a->contra_number == b->contra_number &&
+           a->agency_passes == b->agency_passes && a->contra_passes == b->contra_passes;
 }
 
 static inline bool same_tally(const struct opc_tally *a, const struct opc_tally *b) {

@@ -1,12 +1,13 @@
 /*
- * The cases of the files in cases/: each order, message and quote, with the settings and market
- * that it is checked against, and the answer that its line has after "#=". Run at the top of the
- * repository.
+ * The cases of the files in cases/: each order, pair, message and quote, with the settings and
+ * market that it is checked against, and the answer that its line has after "#=". Run at the top of
+ * the repository.
  */
 #ifndef CASES_H
 #define CASES_H
 
 #include "expect.h"
+#include "made_orders.h"
 #include "requests.h"
 
 #include <glob.h>
@@ -23,7 +24,25 @@ static inline void print_case(void) {
     }
 }
 
-/* Holds an order, a message or a quote to the answer, in the line's words. */
+/* An order of a case, or one of its pair, with bytes of its own. */
+static inline struct made_order order_of(const struct opc_order *order, const struct terms *terms) {
+    struct made_order m = no_legs();
+    expect(order->counts_len <= sizeof m.counts, "a case of more legs than can be made");
+    memcpy(m.symbols, order->symbols, order->symbols_len);
+    memcpy(m.counts, order->counts, order->counts_len);
+    m.symbols_len = order->symbols_len;
+    m.counts_len = order->counts_len;
+    m.price = order->price;
+    m.kind = order->kind;
+    m.stop = order->stop;
+    m.manual = order->manual;
+    m.opening = order->opening;
+    m.settings = terms->settings;
+    m.market = terms->market;
+    return m;
+}
+
+/* Holds an order, a pair, a message or a quote to the answer, in the line's words. */
 typedef void hold_case(const struct request *request, const char *answer);
 
 /* What stands after "#=" and a blank. */
@@ -63,7 +82,7 @@ static inline void hold_file(const char *name, enum request_kind kind, hold_case
     case_now.file = NULL;
 }
 
-/* Holds every order, every message or every quote of every file. */
+/* Holds every order, every pair, every message or every quote of every file. */
 static inline void hold_cases(enum request_kind kind, hold_case *hold) {
     glob_t files;
     expect(glob("cases/*.desk", 0, NULL, &files) == 0, "there are no cases");

@@ -1,7 +1,7 @@
 /*
- * The checks for a trading desk: reads orders, messages and quotes, one to a line, and prints the
- * library's verdict on each in words. host/desk.help says how a line is written and what is
- * printed.
+ * The checks for a trading desk: reads orders, pairs, messages and quotes, one to a line, and
+ * prints the library's verdict on each in words. host/desk.help says how a line is written and what
+ * is printed.
  *
  * No rule of the checks is here. What is said of a refusal beside its meaning is learnt by asking
  * the library again: of a leg by itself, at another price, with one field of the terms alone.
@@ -20,19 +20,31 @@
 
 enum { EXIT_READ = 0, EXIT_UNREAD = 1, EXIT_TROUBLE = 2, EXIT_NOT_ACCEPTED = 3 };
 
+/* How often each row's number was given. */
+struct given {
+    uint64_t times[COUNT(number_rows)];
+};
+
 /* The orders, those in messages among them, or the quotes that were answered, counted. */
 struct session {
     struct opc_tally tally;
-    uint64_t given[COUNT(number_rows)]; /* how often, of each row's number */
+    struct given given;
 };
 
 static const struct session fresh_session = {.tally = OPC_FRESH_TALLY};
 
+/* The pairs that were answered, counted by what passes. */
+struct pairs {
+    uint64_t seen, both, agency_alone, neither;
+    struct given given; /* to either order */
+};
+
 struct desk {
     struct terms terms;
     struct session orders, quotes;
+    struct pairs pairs;
     uint64_t line_number;
-    bool all_accepted; /* every order, message, quote and set */
+    bool all_accepted; /* every order, those of pairs among them, message, quote and set */
     bool is_awaited;   /* each answer, by whoever writes the lines */
 };
 
@@ -262,7 +274,16 @@ static void print_quote_fault(const struct opc_quote *quote, uint64_t number) {
     }
 }
 
-/* ---- orders, messages and quotes ---- */
+/* ---- tallies ---- */
+
+static void print_given(const struct given *given) {
+    for (size_t i = 0; i < COUNT(number_rows); i++) {
+        if (given->times[i] > 0) {
+            printf("  %" PRIu64 " %s: %" PRIu64 "\n", number_rows[i].number, number_rows[i].word,
+                   given->times[i]);
+        }
+    }
+}
 
 static void print_session(const char *name, const struct session *session) {
     const struct opc_tally *tally = &session->tally;
@@ -272,20 +293,27 @@ static void print_session(const char *name, const struct session *session) {
     printf("tally of %s: %" PRIu64 " seen, %" PRIu64 " refused, %" PRIu64 " accepted, %" PRIu64
            " rejected\n",
            name, tally->seen, tally->refused, tally->accepted, tally->rejected);
+    print_given(&session->given);
+}
+
+static void print_pairs(const struct pairs *pairs) {
+    if (pairs->seen == 0) {
+        return;
+    }
+    printf("tally of pairs: %" PRIu64 " seen, %" PRIu64 " both pass, %" PRIu64
+           " agency order alone, %" PRIu64 " neither\n",
+           pairs->seen, pairs->both, pairs->agency_alone, pairs->neither);
+    print_given(&pairs->given);
+}
+
+static void note(struct desk *desk, struct given *given, uint64_t number) {
+    desk->all_accepted = desk->all_accepted && number == OPC_ACCEPTED;
     for (size_t i = 0; i < COUNT(number_rows); i++) {
-        if (session->given[i] > 0) {
-            printf("  %" PRIu64 " %s: %" PRIu64 "\n", number_rows[i].number, number_rows[i].word,
-                   session->given[i]);
-        }
+        given->times[i] += number_rows[i].number == number;
     }
 }
 
-static void note(struct desk *desk, struct session *session, uint64_t number) {
-    desk->all_accepted = desk->all_accepted && number == OPC_ACCEPTED;
-    for (size_t i = 0; i < COUNT(number_rows); i++) {
-        session->given[i] += number_rows[i].number == number;
-    }
-}
+/* ---- orders, pairs, messages and quotes ---- */
 
 /* A full tally is printed, and the next one begins: no order goes unchecked for it. */
 static void make_room(struct desk *desk) {
@@ -297,7 +325,7 @@ static void make_room(struct desk *desk) {
 
 /* The answer's line, up to what is at fault; says whether it is a refusal. */
 static bool print_answer(struct desk *desk, const char *what, const struct opc_answer *answer) {
-    note(desk, &desk->orders, answer->number);
+    note(desk, &desk->orders.given, answer->number);
     printf("%" PRIu64 ": %s: ", desk->line_number, what);
     print_verdict(answer->number, &desk->terms);
     if (opc_outcome_of(answer->number) == OPC_OUTCOME_REFUSED) {
@@ -316,6 +344,31 @@ static void answer_order(struct desk *desk, const struct opc_order *order) {
     if (print_answer(desk, "order", &answer)) {
         print_order_fault(order, answer.number);
     }
+    printf("\n");
+}
+
+/* One order of a pair: its verdict as that of any order, and whether it passes. */
+static void print_side(struct desk *desk, const char *what, const struct opc_order *order,
+                       uint64_t number, uint64_t passes) {
+    note(desk, &desk->pairs.given, number);
+    printf("%s: ", what);
+    print_verdict(number, &desk->terms);
+    print_order_fault(order, number);
+    printf("; %s", passes_name(passes));
+}
+
+static void answer_pair(struct desk *desk, const struct opc_pair *pair) {
+    struct opc_pair_answer answer =
+        opc_answer_pair(pair, &desk->terms.settings, &desk->terms.market);
+    bool agency = answer.agency_passes != 0, contra = answer.contra_passes != 0;
+    desk->pairs.seen++;
+    desk->pairs.both += agency && contra;
+    desk->pairs.agency_alone += agency && !contra;
+    desk->pairs.neither += !agency && !contra;
+    printf("%" PRIu64 ": pair: ", desk->line_number);
+    print_side(desk, "agency order", &pair->agency, answer.number, answer.agency_passes);
+    printf("; ");
+    print_side(desk, "contra order", &pair->contra, answer.contra_number, answer.contra_passes);
     printf("\n");
 }
 
@@ -341,7 +394,7 @@ static void answer_quote(struct desk *desk, const struct opc_quote *quote) {
     struct opc_quote_answer answer =
         opc_answer_quote(quote, &desk->terms.settings, &desk->terms.market);
     tally_quote(&desk->quotes.tally, opc_outcome_of(answer.number));
-    note(desk, &desk->quotes, answer.number);
+    note(desk, &desk->quotes.given, answer.number);
     printf("%" PRIu64 ": quote: ", desk->line_number);
     print_verdict(answer.number, &desk->terms);
     print_quote_fault(quote, answer.number);
@@ -412,6 +465,9 @@ static void answer_request(struct desk *desk, const struct request *request) {
     switch (request->kind) {
     case REQUEST_ORDER:
         answer_order(desk, &request->order);
+        break;
+    case REQUEST_PAIR:
+        answer_pair(desk, &request->pair);
         break;
     case REQUEST_FIX:
         answer_fix(desk, &request->fix);
@@ -502,6 +558,7 @@ static int answer_file(FILE *file, const char *name, const struct options *optio
         return EXIT_TROUBLE;
     }
     print_session("orders", &desk.orders);
+    print_pairs(&desk.pairs);
     print_session("quotes", &desk.quotes);
     return !are_read                                  ? EXIT_UNREAD
            : options->is_strict && !desk.all_accepted ? EXIT_NOT_ACCEPTED

@@ -99,6 +99,7 @@ static inline void put_value(struct terms *terms, const struct settable *settabl
 enum request_kind {
     REQUEST_NOTHING, /* an empty line, or a comment alone */
     REQUEST_ORDER,
+    REQUEST_PAIR,
     REQUEST_FIX,
     REQUEST_QUOTE,
     REQUEST_SET,
@@ -106,17 +107,24 @@ enum request_kind {
     REQUEST_SHOW
 };
 
-/* Order, message and quote point into the request, which so is not to be copied. */
+/* The bytes of an order's legs. */
+struct leg_bytes {
+    uint8_t symbols[LEGS_READ * OPC_SYMBOL_LENGTH];
+    uint8_t counts[LEGS_READ * OPC_COUNT_LENGTH];
+};
+
+/* Orders, message and quote point into the request, which so is not to be copied. */
 struct request {
     enum request_kind kind;
     struct opc_order order;
+    struct opc_pair pair;
     struct opc_fix fix;
     struct opc_quote quote;
     struct terms terms;                           /* that hold after the line */
     const struct settable *set[COUNT(settables)]; /* by the line, in its sequence */
     size_t set_len;
-    uint8_t symbols[LEGS_READ * OPC_SYMBOL_LENGTH]; /* of the legs; of a quote the first */
-    uint8_t counts[LEGS_READ * OPC_COUNT_LENGTH];
+    struct leg_bytes legs; /* of an order, or the agency order; of a quote the first symbol */
+    struct leg_bytes contra_legs;
     uint8_t message[LINE_LENGTH];
 };
 
@@ -292,27 +300,26 @@ static inline void take_message(struct line *line, struct request *request) {
 
 /* ---- the kinds of lines ---- */
 
-static inline bool take_leg(struct line *line, struct request *request, size_t leg) {
+static inline bool take_leg(struct line *line, struct leg_bytes *legs, size_t leg) {
     int64_t count;
     if (leg == LEGS_READ) {
         return fault(line, next_field(line), "order", "has more than 100 legs");
     }
-    if (!take_count(line, &count) ||
-        !take_series(line, request->symbols + leg * OPC_SYMBOL_LENGTH)) {
+    if (!take_count(line, &count) || !take_series(line, legs->symbols + leg * OPC_SYMBOL_LENGTH)) {
         return false;
     }
-    opc_write_count(count, request->counts + leg * OPC_COUNT_LENGTH);
+    opc_write_count(count, legs->counts + leg * OPC_COUNT_LENGTH);
     return true;
 }
 
 /* Legs up to the first word or the line's end: none, if that comes at once. */
-static inline bool take_legs(struct line *line, struct request *request, size_t *len) {
+static inline bool take_legs(struct line *line, struct leg_bytes *legs, size_t *len) {
     struct field next = next_field(line);
     *len = 0;
     if (next.len == 0 || is_word(next)) {
         return true;
     }
-    while (take_leg(line, request, *len)) {
+    while (take_leg(line, legs, *len)) {
         (*len)++;
         next = next_field(line);
         if (!is(next, ";")) {
@@ -323,21 +330,61 @@ static inline bool take_legs(struct line *line, struct request *request, size_t 
     return false;
 }
 
-static inline bool read_order(struct line *line, struct request *request) {
+/* Price, legs and words, up to the line's end. */
+static inline bool take_order(struct line *line, struct opc_order *order, struct leg_bytes *legs) {
     static const char *const words[] = {"market", "stop", "manual", "opening"};
-    struct opc_order *order = &request->order;
     uint64_t *const flags[] = {&order->kind, &order->stop, &order->manual, &order->opening};
-    size_t legs;
+    size_t len;
     *order = (struct opc_order){.kind = OPC_KIND_LIMIT};
-    if (!take_price(line, &order->price) || !take_legs(line, request, &legs) ||
+    if (!take_price(line, &order->price) || !take_legs(line, legs, &len) ||
         !take_words(line, words, flags, COUNT(words)) || !is_at_end(line)) {
         return false;
     }
-    order->symbols = request->symbols;
-    order->symbols_len = legs * OPC_SYMBOL_LENGTH;
-    order->counts = request->counts;
-    order->counts_len = legs * OPC_COUNT_LENGTH;
+    order->symbols = legs->symbols;
+    order->symbols_len = len * OPC_SYMBOL_LENGTH;
+    order->counts = legs->counts;
+    order->counts_len = len * OPC_COUNT_LENGTH;
     return true;
+}
+
+static inline bool read_order(struct line *line, struct request *request) {
+    return take_order(line, &request->order, &request->legs);
+}
+
+/* The one '/' among the fields that come next, which stay the next ones. */
+static inline bool find_slash(struct line *line, struct field *slash) {
+    const size_t at = line->at;
+    *slash = (struct field){NULL, 0};
+    struct field next = next_field(line);
+    for (; next.len > 0; next = next_field(line)) {
+        if (is(next, "/")) {
+            if (slash->len > 0) {
+                return fault(line, next, "/", "is there twice");
+            }
+            *slash = next;
+        }
+        pass(line, next);
+    }
+    line->at = at;
+    return slash->len > 0 || fault(line, next, "/", "is missing");
+}
+
+/* For the agency order the line ends where the '/' is. */
+static inline bool read_pair(struct line *line, struct request *request) {
+    static const char *const words[] = {"unpaired"};
+    struct opc_pair *pair = &request->pair;
+    uint64_t *const flags[] = {&pair->continue_unpaired};
+    const size_t len = line->len;
+    struct field slash;
+    *pair = (struct opc_pair){.continue_unpaired = 0};
+    if (!take_words(line, words, flags, COUNT(words)) || !find_slash(line, &slash)) {
+        return false;
+    }
+    line->len = place_of(line, slash);
+    bool is_taken = take_order(line, &pair->agency, &request->legs);
+    line->len = len;
+    pass(line, slash);
+    return is_taken && take_order(line, &pair->contra, &request->contra_legs);
 }
 
 static inline bool read_fix(struct line *line, struct request *request) {
@@ -356,8 +403,8 @@ static inline bool read_quote(struct line *line, struct request *request) {
     static const char *const words[] = {"resting"};
     struct opc_quote *quote = &request->quote;
     uint64_t *const flags[] = {&quote->resting};
-    *quote = (struct opc_quote){.symbol = request->symbols, .symbol_len = OPC_SYMBOL_LENGTH};
-    return take_series(line, request->symbols) && take_dollars(line, "bid", &quote->bid) &&
+    *quote = (struct opc_quote){.symbol = request->legs.symbols, .symbol_len = OPC_SYMBOL_LENGTH};
+    return take_series(line, request->legs.symbols) && take_dollars(line, "bid", &quote->bid) &&
            take_dollars(line, "offer", &quote->offer) &&
            take_words(line, words, flags, COUNT(words)) && is_at_end(line);
 }
@@ -444,9 +491,10 @@ static inline bool read_request(struct line *line, const struct terms *now,
         enum request_kind kind;
         bool (*read)(struct line *line, struct request *request);
     } kinds[] = {
-        {"order", REQUEST_ORDER, read_order}, {"fix", REQUEST_FIX, read_fix},
-        {"quote", REQUEST_QUOTE, read_quote}, {"set", REQUEST_SET, read_set},
-        {"reset", REQUEST_RESET, read_reset}, {"show", REQUEST_SHOW, read_show},
+        {"order", REQUEST_ORDER, read_order}, {"pair", REQUEST_PAIR, read_pair},
+        {"fix", REQUEST_FIX, read_fix},       {"quote", REQUEST_QUOTE, read_quote},
+        {"set", REQUEST_SET, read_set},       {"reset", REQUEST_RESET, read_reset},
+        {"show", REQUEST_SHOW, read_show},
     };
     request->kind = REQUEST_NOTHING;
     request->terms = *now;
@@ -464,7 +512,8 @@ static inline bool read_request(struct line *line, const struct terms *now,
             return kinds[i].read(line, request);
         }
     }
-    return fault(line, word, "line", "begins with none of order, fix, quote, set, reset, show");
+    return fault(line, word, "line",
+                 "begins with none of order, pair, fix, quote, set, reset, show");
 }
 
 #endif

@@ -85,23 +85,6 @@ static struct made_order vertical(int64_t price) {
     return m;
 }
 
-static struct made_order order_of(const struct request *r) {
-    struct made_order m = no_legs();
-    expect(r->order.counts_len <= sizeof m.counts, "a case of more legs than can be made");
-    memcpy(m.symbols, r->order.symbols, r->order.symbols_len);
-    memcpy(m.counts, r->order.counts, r->order.counts_len);
-    m.symbols_len = r->order.symbols_len;
-    m.counts_len = r->order.counts_len;
-    m.price = r->order.price;
-    m.kind = r->order.kind;
-    m.stop = r->order.stop;
-    m.manual = r->order.manual;
-    m.opening = r->order.opening;
-    m.settings = r->terms.settings;
-    m.market = r->terms.market;
-    return m;
-}
-
 static void expect_case(const struct made_order *made, const char *words) {
     struct opc_answer a = answer(made);
     expect_words(&a, words);
@@ -109,7 +92,7 @@ static void expect_case(const struct made_order *made, const char *words) {
 
 /* As it is; with the legs in another sequence, and with other values for each yes. */
 static void hold_order(const struct request *request, const char *words) {
-    struct made_order m = order_of(request);
+    struct made_order m = order_of(&request->order, &request->terms);
     expect_case(&m, words);
     shuffle_legs(&m);
     expect_case(&m, words);
