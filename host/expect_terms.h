@@ -1,6 +1,6 @@
 /*
  * The settings and the market that an order or a quote under test is checked against: other values
- * for a yes, other lengths, and all of them printed for the message of a failure.
+ * for a yes, other lengths, and all of them printed for the message of a failure; so too an order.
  */
 #ifndef EXPECT_TERMS_H
 #define EXPECT_TERMS_H
@@ -58,6 +58,17 @@ static inline void print_terms(const struct opc_settings *s, size_t settings_len
     print_numbers("settings", settings, COUNT(settings));
     print_numbers("market", market, COUNT(market));
     fprintf(stderr, "  lent: %zu of settings and %zu of market\n", settings_len, market_len);
+}
+
+/* Its legs and its own terms. */
+static inline void print_order(const struct made_order *m) {
+    const uint64_t flags[] = {m->kind, m->stop, m->manual, m->opening};
+    fprintf(stderr, "  symbols: %.*s\n  counts:", (int)m->symbols_len, (const char *)m->symbols);
+    for (size_t i = 0; i < m->counts_len; i++) {
+        fprintf(stderr, "%s%02x", i % OPC_COUNT_LENGTH == 0 ? " " : "", m->counts[i]);
+    }
+    fprintf(stderr, "\n  price: %" PRId64 "\n", m->price);
+    print_numbers("kind, stop, manual, opening", flags, COUNT(flags));
 }
 
 #endif

@@ -1,13 +1,15 @@
 /*
  * Calls the entry that its argument names once for each of many valid inputs, all checks switched
  * on, and prints a line for each call: legs and kind of order or quote. The order check gets orders
- * of 1, 2, 4, 8 and 16 legs, the check of messages the messages of those of 1, 4 and 16 legs, the
- * tallied checks those of 1 and 16 legs. With a second argument, "lengths", the check of messages
- * gets ones with more and more fields to step over, and a line has the bytes in place of the legs.
- * host/measure runs this under callgrind, which counts the instructions of each call.
+ * of 1, 2, 4, 8 and 16 legs, the check of pairs each of these with its other side, the check of
+ * messages the messages of those of 1, 4 and 16 legs, the tallied checks those of 1 and 16 legs.
+ * With a second argument, "lengths", the check of messages gets ones with more and more fields to
+ * step over, and a line has the bytes in place of the legs. host/measure runs this under callgrind,
+ * which counts the instructions of each call.
  */
 #include "made_messages.h"
 #include "made_orders.h"
+#include "made_pairs.h"
 #include "made_quotes.h"
 #include "option_price_check.h"
 
@@ -15,8 +17,8 @@
 
 #define RANDOM_INPUTS 40
 
-/* Which check is called for an order: that of orders or of messages, with a tally or without. */
-static bool in_message, tallied;
+/* Whether the check is lent a tally. */
+static bool tallied;
 
 /* A market in which checks 25 and 26 have a reference and check 21 an underlying. */
 static const struct opc_market quoted = {.phase = OPC_PHASE_OPEN,
@@ -85,30 +87,6 @@ static void reverse_legs(struct made_order *m) {
     }
 }
 
-static struct opc_answer answer_order(const struct made_order *m) {
-    struct opc_order order = lend(m);
-    struct opc_tally tally = OPC_FRESH_TALLY;
-    return tallied ? opc_answer_order_tallied(&order, &m->settings, &m->market, &tally)
-                   : opc_answer_order(&order, &m->settings, &m->market);
-}
-
-/* The message with the fewest fields. */
-static struct opc_answer answer_message(const struct made_order *m) {
-    static struct made_message body, message;
-    struct opc_tally tally = OPC_FRESH_TALLY;
-    write_body(&body, m);
-    frame(&message, &body);
-    struct opc_fix fix = lend_fix(&message, m);
-    return tallied ? opc_answer_fix_tallied(&fix, &m->settings, &m->market, &tally)
-                   : opc_answer_fix(&fix, &m->settings, &m->market);
-}
-
-static uint64_t check(const struct made_order *m, const char *kind, const char *sequence) {
-    struct opc_answer a = in_message ? answer_message(m) : answer_order(m);
-    printf("%zu %s%s\n", legs_of(m), kind, sequence);
-    return a.number;
-}
-
 static void expect(bool holds, const char *kind, size_t legs) {
     if (!holds) {
         fprintf(stderr, "instructions: another answer than meant, %zu legs, %s\n", legs, kind);
@@ -117,6 +95,46 @@ static void expect(bool holds, const char *kind, size_t legs) {
 }
 
 static bool is_valid(uint64_t number) { return opc_outcome_of(number) != OPC_OUTCOME_REFUSED; }
+
+static uint64_t number_of_order(const struct made_order *m) {
+    struct opc_order order = lend(m);
+    struct opc_tally tally = OPC_FRESH_TALLY;
+    struct opc_answer a = tallied
+                              ? opc_answer_order_tallied(&order, &m->settings, &m->market, &tally)
+                              : opc_answer_order(&order, &m->settings, &m->market);
+    return a.number;
+}
+
+/* Of the message with the fewest fields. */
+static uint64_t number_of_message(const struct made_order *m) {
+    static struct made_message body, message;
+    struct opc_tally tally = OPC_FRESH_TALLY;
+    write_body(&body, m);
+    frame(&message, &body);
+    struct opc_fix fix = lend_fix(&message, m);
+    struct opc_answer a = tallied ? opc_answer_fix_tallied(&fix, &m->settings, &m->market, &tally)
+                                  : opc_answer_fix(&fix, &m->settings, &m->market);
+    return a.number;
+}
+
+/* Of the order or, where that is accepted, of its other side: 0 where both are. */
+static uint64_t number_of_pair(const struct made_order *m) {
+    const struct made_order contra = other_side(m);
+    const struct made_pair p = pair_of(m, &contra, 0);
+    struct opc_pair pair = lend_pair(&p);
+    struct opc_pair_answer a = opc_answer_pair(&pair, &m->settings, &m->market);
+    expect(is_valid(a.number) && is_valid(a.contra_number), "pair", legs_of(m));
+    return a.number != OPC_ACCEPTED ? a.number : a.contra_number;
+}
+
+/* Calls the check for an order, and gives the number. */
+static uint64_t (*number_of)(const struct made_order *m);
+
+static uint64_t check(const struct made_order *m, const char *kind, const char *sequence) {
+    uint64_t number = number_of(m);
+    printf("%zu %s%s\n", legs_of(m), kind, sequence);
+    return number;
+}
 
 /* An order that pays 1.20 dollars, lent in the sequence in which it is made and in reverse. */
 static void check_kind(void (*add_legs)(struct made_order *, size_t), const char *kind,
@@ -222,14 +240,16 @@ int main(int argc, char **argv) {
     static const size_t all[] = {1, 2, 4, 8, 16}, some[] = {1, 4, 16}, least_and_most[] = {1, 16};
     static const struct {
         const char *name;
-        bool in_message, tallied;
+        uint64_t (*number_of)(const struct made_order *m);
+        bool tallied;
         const size_t *sizes;
         size_t len;
     } entries[] = {
-        {"opc_check_order", false, false, all, COUNT(all)},
-        {"opc_check_order_tallied", false, true, least_and_most, COUNT(least_and_most)},
-        {"opc_check_fix", true, false, some, COUNT(some)},
-        {"opc_check_fix_tallied", true, true, least_and_most, COUNT(least_and_most)},
+        {"opc_check_order", number_of_order, false, all, COUNT(all)},
+        {"opc_check_order_tallied", number_of_order, true, least_and_most, COUNT(least_and_most)},
+        {"opc_check_fix", number_of_message, false, some, COUNT(some)},
+        {"opc_check_fix_tallied", number_of_message, true, least_and_most, COUNT(least_and_most)},
+        {"opc_check_pair", number_of_pair, false, all, COUNT(all)},
     };
     const char *entry = argc >= 2 ? argv[1] : "", *what = argc == 3 ? argv[2] : "";
     if (strcmp(entry, "opc_check_quote") == 0) {
@@ -242,7 +262,7 @@ int main(int argc, char **argv) {
     }
     for (size_t i = 0; i < COUNT(entries); i++) {
         if (strcmp(entry, entries[i].name) == 0) {
-            in_message = entries[i].in_message;
+            number_of = entries[i].number_of;
             tallied = entries[i].tallied;
             check_sizes(entries[i].sizes, entries[i].len);
             return 0;

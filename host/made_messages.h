@@ -146,14 +146,6 @@ static inline uint64_t size_of(int64_t number) {
     return number < 0 ? 0 - (uint64_t)number : (uint64_t)number;
 }
 
-static inline int64_t count_of(const struct made_order *m, size_t leg) {
-    uint64_t count = 0;
-    for (size_t i = OPC_COUNT_LENGTH; i > 0; i--) {
-        count = count << 8 | m->counts[leg * OPC_COUNT_LENGTH + i - 1];
-    }
-    return (int64_t)count;
-}
-
 static inline void add_kind(struct made_message *body, const struct made_order *m) {
     add_written(body, "40=%c|", m->kind == OPC_KIND_LIMIT ? '2' : '1');
 }

@@ -75,6 +75,14 @@ static inline uint8_t *count_at(struct made_order *m, size_t leg) {
     return m->counts + leg * OPC_COUNT_LENGTH;
 }
 
+static inline int64_t count_of(const struct made_order *m, size_t leg) {
+    uint64_t count = 0;
+    for (size_t i = OPC_COUNT_LENGTH; i > 0; i--) {
+        count = count << 8 | m->counts[leg * OPC_COUNT_LENGTH + i - 1];
+    }
+    return (int64_t)count;
+}
+
 /* An order of no leg, with document 01's example settings and an empty market. */
 static inline struct made_order no_legs(void) {
     struct made_order m = {.settings = OPC_EXAMPLE_SETTINGS,

@@ -9,6 +9,7 @@
 #define _XOPEN_SOURCE 700
 #include "made_messages.h"
 #include "made_orders.h"
+#include "made_pairs.h"
 #include "made_quotes.h"
 #include "option_price_check.h"
 
@@ -35,6 +36,8 @@ static struct opc_answer answer;
 static struct opc_tally tally;
 static struct made_message body, message;
 static struct opc_fix fix;
+static struct made_pair made_pair;
+static struct opc_pair_answer pair_answer;
 static struct made_quote made_quote;
 static struct opc_quote_answer quote_answer;
 
@@ -68,6 +71,12 @@ static void call_check_fix_tallied(void) {
     answer.number = opc_check_fix_tallied(EACH_OF_FIX(&fix), SLICES_OF(&made), &answer.class_,
                                           &answer.shape, &answer.pairings, &tally.seen,
                                           &tally.refused, &tally.accepted, &tally.rejected);
+}
+
+static void call_check_pair(void) {
+    pair_answer.number = opc_check_pair(EACH_OF_PAIR(&made_pair), SLICES_OF(&made_pair.agency),
+                                        &pair_answer.contra_number, &pair_answer.agency_passes,
+                                        &pair_answer.contra_passes);
 }
 
 static void call_check_quote(void) {
@@ -225,6 +234,14 @@ static size_t fix_tallied_inputs(void) {
     return message_inputs(check_made_fix_tallied, call_check_fix_tallied);
 }
 
+/* The order on one side, and on the other its other side or some other order. */
+static void check_made_pair(void) {
+    made_pair = random_pair(&made);
+    on_painted_stack(call_check_pair);
+}
+
+static size_t pair_inputs(void) { return order_inputs(check_made_pair); }
+
 /* Valid quotes, then each kind of damage, alone and upon another. */
 static size_t quote_inputs(void) {
     size_t inputs = 0;
@@ -253,7 +270,7 @@ int main(void) {
         {"opc_read_symbol", read_inputs},  {"opc_write_symbol", write_inputs},
         {"opc_check_order", check_inputs}, {"opc_check_order_tallied", tallied_inputs},
         {"opc_check_fix", fix_inputs},     {"opc_check_fix_tallied", fix_tallied_inputs},
-        {"opc_check_quote", quote_inputs},
+        {"opc_check_pair", pair_inputs},   {"opc_check_quote", quote_inputs},
     };
     bool within = true;
     paint_stack();

@@ -23,18 +23,22 @@ struct slice {
 
 /*
  * What an entry was given last; of a message its flags, and of a quote bid, offer and resting, are
- * the first three terms.
+ * the first three terms. The agency order of a pair is kept as an order.
  */
 static struct {
     struct slice symbols, counts, message, settings, market;
     uint64_t terms[TERMS];
     struct opc_tally tally;
+    struct slice contra_symbols, contra_counts;
+    uint64_t contra_terms[TERMS];
+    uint64_t continue_unpaired;
 } given;
 
 /* What it answers. */
 static struct {
     struct opc_answer answer;
     struct opc_tally tally;
+    struct opc_pair_answer pair;
     struct opc_quote_answer quote;
 } told;
 
@@ -111,6 +115,34 @@ uint64_t opc_check_fix_tallied(const uint8_t *message, size_t message_len, uint6
                          market, market_len, class_, shape, pairings);
 }
 
+uint64_t opc_check_pair(const uint8_t *agency_symbols, size_t agency_symbols_len,
+                        const uint8_t *agency_counts, size_t agency_counts_len,
+                        int64_t agency_price, uint64_t agency_kind, uint64_t agency_stop,
+                        uint64_t agency_manual, uint64_t agency_opening,
+                        const uint8_t *contra_symbols, size_t contra_symbols_len,
+                        const uint8_t *contra_counts, size_t contra_counts_len,
+                        int64_t contra_price, uint64_t contra_kind, uint64_t contra_stop,
+                        uint64_t contra_manual, uint64_t contra_opening, uint64_t continue_unpaired,
+                        const uint64_t *settings, size_t settings_len, const uint64_t *market,
+                        size_t market_len, uint64_t *contra_number, uint64_t *agency_passes,
+                        uint64_t *contra_passes) {
+    const uint64_t terms[TERMS] = {(uint64_t)agency_price, agency_kind, agency_stop, agency_manual,
+                                   agency_opening};
+    const uint64_t contra_terms[TERMS] = {(uint64_t)contra_price, contra_kind, contra_stop,
+                                          contra_manual, contra_opening};
+    given.symbols = (struct slice){agency_symbols, agency_symbols_len};
+    given.counts = (struct slice){agency_counts, agency_counts_len};
+    given.contra_symbols = (struct slice){contra_symbols, contra_symbols_len};
+    given.contra_counts = (struct slice){contra_counts, contra_counts_len};
+    memcpy(given.contra_terms, contra_terms, sizeof given.contra_terms);
+    given.continue_unpaired = continue_unpaired;
+    take_terms(settings, settings_len, market, market_len, terms);
+    *contra_number = told.pair.contra_number;
+    *agency_passes = told.pair.agency_passes;
+    *contra_passes = told.pair.contra_passes;
+    return told.pair.number;
+}
+
 uint64_t opc_check_quote(const uint8_t *symbol, size_t symbol_len, uint64_t bid, uint64_t offer,
                          uint64_t resting, const uint64_t *settings, size_t settings_len,
                          const uint64_t *market, size_t market_len, uint64_t *cancel) {
@@ -169,18 +201,22 @@ static void expect_settings_and_market(void) {
     expect_slice(given.market, &sent.market, OPC_MARKET_COUNT, "the market");
 }
 
-static void expect_order_arrived(const struct opc_answer *answer) {
+static void expect_order_arrived(void) {
     expect_slice(given.symbols, sent.symbols, sent.order.symbols_len, "the symbols");
     expect_slice(given.counts, sent.counts, sent.order.counts_len, "the counts");
     expect(memcmp(given.terms, sent.terms, sizeof given.terms) == 0, "price, kind and flags");
     expect_settings_and_market();
+}
+
+static void expect_order_answered(const struct opc_answer *answer) {
+    expect_order_arrived();
     expect(same_answer(answer, &told.answer), "the answer");
 }
 
 static void test_order_wrapper(void) {
     make_sent();
     struct opc_answer answer = opc_answer_order(&sent.order, &sent.settings, &sent.market);
-    expect_order_arrived(&answer);
+    expect_order_answered(&answer);
 }
 
 static struct opc_tally next_tally(void) {
@@ -200,7 +236,7 @@ static void test_tallied_wrapper(void) {
     struct opc_tally before = next_tally(), tally = before;
     struct opc_answer answer =
         opc_answer_order_tallied(&sent.order, &sent.settings, &sent.market, &tally);
-    expect_order_arrived(&answer);
+    expect_order_answered(&answer);
     expect_tally_exchanged(&before, &tally);
 }
 
@@ -234,6 +270,32 @@ static void test_fix_tallied_wrapper(void) {
     struct opc_answer answer = opc_answer_fix_tallied(&fix, &sent.settings, &sent.market, &tally);
     expect_fix_arrived(&fix, &answer);
     expect_tally_exchanged(&before, &tally);
+}
+
+/* A contra order of other values than the order that was sent. */
+static void test_pair_wrapper(void) {
+    static uint8_t symbols[OPC_SYMBOL_LENGTH], counts[OPC_COUNT_LENGTH];
+    make_sent();
+    const uint64_t terms[TERMS] = {next_value(), next_value(), next_value(), next_value(),
+                                   next_value()};
+    const struct opc_order contra = {.symbols = symbols,
+                                     .symbols_len = next_value(),
+                                     .counts = counts,
+                                     .counts_len = next_value(),
+                                     .price = (int64_t)terms[0],
+                                     .kind = terms[1],
+                                     .stop = terms[2],
+                                     .manual = terms[3],
+                                     .opening = terms[4]};
+    const struct opc_pair pair = {
+        .agency = sent.order, .contra = contra, .continue_unpaired = next_value()};
+    struct opc_pair_answer answer = opc_answer_pair(&pair, &sent.settings, &sent.market);
+    expect_order_arrived();
+    expect_slice(given.contra_symbols, symbols, contra.symbols_len, "the contra order's symbols");
+    expect_slice(given.contra_counts, counts, contra.counts_len, "the contra order's counts");
+    expect(memcmp(given.contra_terms, terms, sizeof terms) == 0, "the contra order's terms");
+    expect(given.continue_unpaired == pair.continue_unpaired, "the mark");
+    expect(same_pair_answer(&answer, &told.pair), "the answer to a pair");
 }
 
 static void test_quote_wrapper(void) {
@@ -294,6 +356,7 @@ int main(void) {
         test_tallied_wrapper();
         test_fix_wrapper();
         test_fix_tallied_wrapper();
+        test_pair_wrapper();
         test_quote_wrapper();
     }
     test_initializers();

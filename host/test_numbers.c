@@ -1,14 +1,16 @@
 /*
  * Holds docs/HOST.md to the header and the library. Its table "The numbers" has the rows of the
  * header's table. Its table "The numbers of each entry" is read, and each entry must give every
- * number that it says and no other, in calls made by chance. Every class, shape and cancel flag is
- * given too. Run at the top of the repository. Exit status 1 and a message on the first failure,
- * one line with the number of checks otherwise.
+ * number that it says and no other, in calls made by chance; the check of pairs gives each of its
+ * two numbers so. Every class, shape and cancel flag is given too, and every way in which the
+ * orders of a pair pass. Run at the top of the repository. Exit status 1 and a message on the first
+ * failure, one line with the number of checks otherwise.
  */
 #include "answers.h"
 #include "expect.h"
 #include "made_messages.h"
 #include "made_orders.h"
+#include "made_pairs.h"
 #include "made_quotes.h"
 #include "option_price_check.h"
 
@@ -151,6 +153,17 @@ static uint64_t number_fix_tallied(void) {
     return opc_answer_fix_tallied(&fix, &m.settings, &m.market, &tally).number;
 }
 
+static struct opc_pair_answer answer_to_pair(void) {
+    struct made_order m = some_order();
+    struct made_pair p = random_pair(&m);
+    struct opc_pair pair = lend_pair(&p);
+    return opc_answer_pair(&pair, &p.agency.settings, &p.agency.market);
+}
+
+static uint64_t number_of_agency(void) { return answer_to_pair().number; }
+
+static uint64_t number_of_contra(void) { return answer_to_pair().contra_number; }
+
 static uint64_t number_of_quote(void) {
     struct made_quote q = random_quote();
     if (one_in(2)) {
@@ -168,6 +181,7 @@ static void test_numbers(void) {
         {"opc_read_symbol", number_read},     {"opc_write_symbol", number_written},
         {"opc_check_order", number_of_order}, {"opc_check_order_tallied", number_tallied},
         {"opc_check_fix", number_of_fix},     {"opc_check_fix_tallied", number_fix_tallied},
+        {"opc_check_pair", number_of_agency}, {"opc_check_pair", number_of_contra},
         {"opc_check_quote", number_of_quote},
     };
     uint64_t all = 0, rows = 0;
@@ -234,10 +248,23 @@ static void test_cancel_flag(void) {
     expect(flags == numbers_in("0 to 1 |"), "a cancel flag that no quote was given");
 }
 
+/* Neither order passes, the agency order alone, or both: 0, 1 and 3. */
+static void test_passes(void) {
+    uint64_t ways = 0;
+    tried = "opc_check_pair";
+    for (size_t i = 0; i < RANDOM_CASES; i++) {
+        struct opc_pair_answer a = answer_to_pair();
+        expect(a.agency_passes <= 1 && a.contra_passes <= 1, "neither 0 nor 1 for an order");
+        ways |= only(a.agency_passes + 2 * a.contra_passes);
+    }
+    expect(ways == numbers_in("0, 1, 3 |"), "a way to pass that no pair was given, or another");
+}
+
 int main(void) {
     test_table();
     test_numbers();
     test_shapes_and_classes();
     test_cancel_flag();
+    test_passes();
     return all_hold();
 }

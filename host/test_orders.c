@@ -20,14 +20,8 @@ static const char *const test_name = "test_orders";
 static struct made_order now;
 
 static void print_tried(void) {
-    const uint64_t flags[] = {now.kind, now.stop, now.manual, now.opening};
     print_case();
-    fprintf(stderr, "  symbols: %.*s\n  counts:", (int)now.symbols_len, (const char *)now.symbols);
-    for (size_t i = 0; i < now.counts_len; i++) {
-        fprintf(stderr, "%s%02x", i % OPC_COUNT_LENGTH == 0 ? " " : "", now.counts[i]);
-    }
-    fprintf(stderr, "\n  price: %" PRId64 "\n", now.price);
-    print_numbers("kind, stop, manual, opening", flags, COUNT(flags));
+    print_order(&now);
     print_terms(&now.settings, now.settings_len, &now.market, now.market_len);
 }
 

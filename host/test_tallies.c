@@ -5,6 +5,7 @@
 #define _DEFAULT_SOURCE /* for lent_bytes.h */
 #include "answers.h"
 #include "expect.h"
+#include "given_orders.h"
 #include "lent_bytes.h"
 #include "made_orders.h"
 #include "made_tallies.h"
@@ -78,66 +79,13 @@ static void expect_not_counted(const struct made_order *made, struct opc_tally t
     expect(same_tally(&after, &tally), "a tally that was refused is changed");
 }
 
-static void one_leg(struct made_order *m, char option_type, int64_t price) {
-    *m = no_legs();
-    add_leg(m, 270115, option_type, 20000, 1);
-    m->price = price;
-}
-
-static void two_calls(struct made_order *m, int64_t first, int64_t second, int64_t price) {
-    *m = no_legs();
-    add_leg(m, 270115, 'C', 20000, first);
-    add_leg(m, 270115, 'C', 25000, second);
-    m->price = price;
-}
-
-/* An order that the order check gives this number, of those it can give. */
-static struct made_order order_given(uint64_t number) {
-    struct made_order m = random_order(OPC_MOST_LEGS);
-    switch (number) {
-    case OPC_ACCEPTED:
-        two_calls(&m, 3, -3, 1000);
-        break;
-    case OPC_CHECK_PUT:
-        one_leg(&m, 'P', 20000);
-        break;
-    case OPC_CHECK_CALL:
-        one_leg(&m, 'C', 1000);
-        m.market.underlying = 1000;
-        break;
-    case OPC_CHECK_BUY_BUY:
-        two_calls(&m, 1, 1, 19);
-        break;
-    case OPC_CHECK_DEBIT_CREDIT:
-        two_calls(&m, 3, -3, -1);
-        break;
-    case OPC_CHECK_MAXIMUM_VALUE:
-        two_calls(&m, 3, -3, 5151);
-        break;
-    case OPC_CHECK_TICK_DISTANCE:
-        one_leg(&m, 'C', 1000);
-        m.market.nbo = 949;
-        break;
-    default:
-        damage(&m, number);
-        break;
-    }
-    return m;
-}
-
-static const uint64_t numbers[] = {
-    OPC_ACCEPTED,      OPC_NOT_21_BYTES,       OPC_BAD_LEG_COUNT,       OPC_BAD_SYMBOL,
-    OPC_BAD_COUNT,     OPC_SERIES_TWICE,       OPC_ROOTS_DIFFER,        OPC_BAD_PRICE,
-    OPC_BAD_SETTING,   OPC_BAD_MARKET,         OPC_CHECK_PUT,           OPC_CHECK_CALL,
-    OPC_CHECK_BUY_BUY, OPC_CHECK_DEBIT_CREDIT, OPC_CHECK_MAXIMUM_VALUE, OPC_CHECK_TICK_DISTANCE};
-
 /* Each number of the order check, counted as its kind from a fresh tally on. */
 static void test_numbers(void) {
     struct opc_tally tally = OPC_FRESH_TALLY;
-    for (size_t i = 0; i < COUNT(numbers); i++) {
-        struct made_order m = order_given(numbers[i]);
+    for (size_t i = 0; i < COUNT(order_numbers); i++) {
+        struct made_order m = order_given(order_numbers[i]);
         struct opc_tally alone = OPC_FRESH_TALLY;
-        expect(answer(&m, &alone).number == numbers[i], "not the number that was meant");
+        expect(answer(&m, &alone).number == order_numbers[i], "not the number that was meant");
         expect_counted(&m, &tally);
     }
     /* Of the list of numbers: nine refusals, one accepted, six checks. */
@@ -156,8 +104,8 @@ static void test_good_tallies(void) {
         {999999, 0, 0, 999999}, {999999, 333333, 333333, 333333},
     };
     for (size_t i = 0; i < COUNT(good); i++) {
-        for (size_t j = 0; j < COUNT(numbers); j++) {
-            struct made_order m = order_given(numbers[j]);
+        for (size_t j = 0; j < COUNT(order_numbers); j++) {
+            struct made_order m = order_given(order_numbers[j]);
             struct opc_tally tally = good[i];
             expect_counted(&m, &tally);
         }
@@ -167,8 +115,8 @@ static void test_good_tallies(void) {
 /* 12 comes first, whatever the order. */
 static void test_bad_tallies(void) {
     for (size_t i = 0; i < COUNT(bad_tallies); i++) {
-        for (size_t j = 0; j < COUNT(numbers); j++) {
-            struct made_order m = order_given(numbers[j]);
+        for (size_t j = 0; j < COUNT(order_numbers); j++) {
+            struct made_order m = order_given(order_numbers[j]);
             expect_not_counted(&m, bad_tallies[i]);
         }
     }
