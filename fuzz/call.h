@@ -14,6 +14,7 @@ enum entry {
     CHECK_ORDER_TALLIED,
     CHECK_FIX,
     CHECK_FIX_TALLIED,
+    CHECK_PAIR,
     CHECK_QUOTE,
     ENTRIES
 };
@@ -30,24 +31,33 @@ enum entry {
 #define MOST_SETTINGS 48
 #define MOST_MARKET_VALUES 24
 
-struct call {
-    enum entry entry;
-    /* How the call is made: which end of the lent bytes is watched, NULL or not, which legs change
-     * places. It has no part in the answer. */
-    uint8_t choice;
-    uint8_t symbols[MOST_SYMBOL_BYTES]; /* of an order; or the one symbol to read, or of a quote */
+/* What an entry is handed of one order. */
+struct order {
+    uint8_t symbols[MOST_SYMBOL_BYTES];
     size_t symbols_len;
     uint8_t counts[MOST_COUNT_BYTES];
     size_t counts_len;
-    uint8_t message[MOST_MESSAGE_BYTES];
-    size_t message_len;
-    struct opc_symbol_parts parts;
-    size_t out_len;
     int64_t price;
     uint64_t kind;
     uint64_t stop;
     uint64_t manual;
     uint64_t opening;
+};
+
+struct call {
+    enum entry entry;
+    /* How the call is made: which end of the lent bytes is watched, NULL or not, which legs change
+     * places. It has no part in the answer. */
+    uint8_t choice;
+    /* Of a pair the agency order. A message has its flags; the one symbol to read, or of a quote,
+     * is in its symbols. */
+    struct order order;
+    struct order contra;
+    uint64_t continue_unpaired;
+    uint8_t message[MOST_MESSAGE_BYTES];
+    size_t message_len;
+    struct opc_symbol_parts parts;
+    size_t out_len;
     uint64_t bid;
     uint64_t offer;
     uint64_t resting;
@@ -57,10 +67,6 @@ struct call {
     size_t market_len;
     struct opc_tally tally;
 };
-
-static inline bool is_order(const struct call *call) {
-    return call->entry == CHECK_ORDER || call->entry == CHECK_ORDER_TALLIED;
-}
 
 static inline bool is_message(const struct call *call) {
     return call->entry == CHECK_FIX || call->entry == CHECK_FIX_TALLIED;

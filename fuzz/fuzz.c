@@ -20,7 +20,7 @@ static const char *const entry_names[ENTRIES] = {
     [READ_SYMBOL] = "opc_read_symbol", [WRITE_SYMBOL] = "opc_write_symbol",
     [CHECK_ORDER] = "opc_check_order", [CHECK_ORDER_TALLIED] = "opc_check_order_tallied",
     [CHECK_FIX] = "opc_check_fix",     [CHECK_FIX_TALLIED] = "opc_check_fix_tallied",
-    [CHECK_QUOTE] = "opc_check_quote",
+    [CHECK_PAIR] = "opc_check_pair",   [CHECK_QUOTE] = "opc_check_quote",
 };
 
 /* ---- Counting. ---- */
@@ -40,6 +40,8 @@ static uint64_t calls[ENTRIES];
 static uint64_t classes[3];
 static uint64_t shapes[5];
 static uint64_t pairings[PAIRINGS];
+static uint64_t contra_numbers[NUMBERS]; /* of a pair; the agency order's are with the answers */
+static uint64_t passing[3];              /* how many orders of a pair pass: one is the agency's */
 static uint64_t cancels[2];
 
 static void print_list(const char *what, const uint64_t *times, size_t n) {
@@ -58,6 +60,8 @@ static void print_counts(void) {
     print_list("class", classes, sizeof classes / sizeof classes[0]);
     print_list("shape", shapes, sizeof shapes / sizeof shapes[0]);
     print_list("pairings", pairings, PAIRINGS);
+    print_list("contra", contra_numbers, NUMBERS);
+    print_list("passing", passing, sizeof passing / sizeof passing[0]);
     print_list("cancel", cancels, 2);
     fflush(stdout);
 }
@@ -80,32 +84,51 @@ static void count_order(const struct call *call, const struct opc_answer *answer
     }
 }
 
+static void count_pair(const struct call *call, const struct opc_pair_answer *answer) {
+    count_answer(call, answer->number);
+    if (answer->contra_number < NUMBERS) {
+        contra_numbers[answer->contra_number]++;
+    }
+    passing[(answer->agency_passes + answer->contra_passes) % 3]++;
+}
+
 /* ---- Differences. ---- */
 
-static struct opc_order order_of(const struct call *call, const uint8_t *symbols,
+static struct opc_order order_of(const struct order *order, const uint8_t *symbols,
                                  const uint8_t *counts) {
     return (struct opc_order){.symbols = symbols,
-                              .symbols_len = call->symbols_len,
+                              .symbols_len = order->symbols_len,
                               .counts = counts,
-                              .counts_len = call->counts_len,
-                              .price = call->price,
-                              .kind = call->kind,
-                              .stop = call->stop,
-                              .manual = call->manual,
-                              .opening = call->opening};
+                              .counts_len = order->counts_len,
+                              .price = order->price,
+                              .kind = order->kind,
+                              .stop = order->stop,
+                              .manual = order->manual,
+                              .opening = order->opening};
+}
+
+/* Of the call's own bytes, which no entry of the library is lent. */
+static struct opc_order own_order(const struct order *order) {
+    return order_of(order, order->symbols, order->counts);
+}
+
+static struct opc_pair own_pair(const struct call *call) {
+    return (struct opc_pair){.agency = own_order(&call->order),
+                             .contra = own_order(&call->contra),
+                             .continue_unpaired = call->continue_unpaired};
 }
 
 static struct opc_fix fix_of(const struct call *call, const uint8_t *message) {
     return (struct opc_fix){.message = message,
                             .message_len = call->message_len,
-                            .stop = call->stop,
-                            .manual = call->manual,
-                            .opening = call->opening};
+                            .stop = call->order.stop,
+                            .manual = call->order.manual,
+                            .opening = call->order.opening};
 }
 
 static struct opc_quote quote_of(const struct call *call, const uint8_t *symbol) {
     return (struct opc_quote){.symbol = symbol,
-                              .symbol_len = call->symbols_len,
+                              .symbol_len = call->order.symbols_len,
                               .bid = call->bid,
                               .offer = call->offer,
                               .resting = call->resting};
@@ -121,9 +144,9 @@ static struct second_terms terms_of(const struct call *call) {
 static void print_symbol_call(const struct call *call) {
     const struct opc_symbol_parts *p = &call->parts;
     if (call->entry == READ_SYMBOL) {
-        fprintf(stderr, "  %zu bytes:", call->symbols_len);
-        for (size_t i = 0; i < call->symbols_len; i++) {
-            uint8_t byte = call->symbols[i];
+        fprintf(stderr, "  %zu bytes:", call->order.symbols_len);
+        for (size_t i = 0; i < call->order.symbols_len; i++) {
+            uint8_t byte = call->order.symbols[i];
             fprintf(stderr, byte >= ' ' && byte < 127 ? "%c" : "\\x%02x", byte);
         }
         fprintf(stderr, "\n");
@@ -136,9 +159,10 @@ static void print_symbol_call(const struct call *call) {
 }
 
 static void print_call(const struct call *call) {
-    struct opc_order order = order_of(call, call->symbols, call->counts);
+    struct opc_order order = own_order(&call->order);
     struct opc_fix fix = fix_of(call, call->message);
-    struct opc_quote quote = quote_of(call, call->symbols);
+    struct opc_pair pair = own_pair(call);
+    struct opc_quote quote = quote_of(call, call->order.symbols);
     struct second_terms terms = terms_of(call);
     const struct opc_tally *tally = is_tallied(call) ? &call->tally : NULL;
     switch (call->entry) {
@@ -149,6 +173,9 @@ static void print_call(const struct call *call) {
     case CHECK_FIX:
     case CHECK_FIX_TALLIED:
         second_print_fix(&fix, &terms, tally);
+        break;
+    case CHECK_PAIR:
+        second_print_pair(&pair, &terms);
         break;
     case CHECK_QUOTE:
         second_print_quote(&quote, &terms);
@@ -192,6 +219,8 @@ static void expect_equal(const struct call *call, const char *what, const void *
 
 static struct lent lent_symbols;
 static struct lent lent_counts;
+static struct lent lent_contra_symbols;
+static struct lent lent_contra_counts;
 static struct lent lent_message;
 static struct lent lent_settings;
 static struct lent lent_market;
@@ -202,12 +231,24 @@ static const uint64_t unset[2] = {UINT64_C(0xdeadbeefdeadbeef), UINT64_C(0x01234
 static bool is_null(const struct call *call) { return (call->choice & 1) == 1; }
 
 static const uint8_t *lend_symbols(const struct call *call, bool last) {
+    const struct order *order = &call->order;
     calls[call->entry]++;
-    return lend(&lent_symbols, call->symbols, call->symbols_len, last, is_null(call));
+    return lend(&lent_symbols, order->symbols, order->symbols_len, last, is_null(call));
 }
 
 static const uint8_t *lend_counts(const struct call *call, bool last) {
-    return lend(&lent_counts, call->counts, call->counts_len, last, is_null(call));
+    const struct order *order = &call->order;
+    return lend(&lent_counts, order->counts, order->counts_len, last, is_null(call));
+}
+
+static const uint8_t *lend_contra_symbols(const struct call *call, bool last) {
+    const struct order *contra = &call->contra;
+    return lend(&lent_contra_symbols, contra->symbols, contra->symbols_len, last, is_null(call));
+}
+
+static const uint8_t *lend_contra_counts(const struct call *call, bool last) {
+    const struct order *contra = &call->contra;
+    return lend(&lent_contra_counts, contra->counts, contra->counts_len, last, is_null(call));
 }
 
 static const uint8_t *lend_message(const struct call *call, bool last) {
@@ -227,8 +268,9 @@ static const void *lend_market(const struct call *call, bool last) {
 
 /* Of every slice, so of those that this call was not lent too. */
 static void expect_kept(const struct call *call) {
-    bool kept = is_kept(&lent_symbols) && is_kept(&lent_counts) && is_kept(&lent_message) &&
-                is_kept(&lent_settings) && is_kept(&lent_market);
+    bool kept = is_kept(&lent_symbols) && is_kept(&lent_counts) && is_kept(&lent_contra_symbols) &&
+                is_kept(&lent_contra_counts) && is_kept(&lent_message) && is_kept(&lent_settings) &&
+                is_kept(&lent_market);
     expect(kept, call, "a lent slice, or what is around it, was changed");
 }
 
@@ -240,9 +282,10 @@ static void expect_guards(const struct call *call, const struct lent_numbers *le
 
 static uint64_t read_directly(const struct call *call, bool last, struct opc_symbol_parts *parts) {
     struct lent_numbers lent = lend_numbers(unset[last]);
-    uint64_t number = opc_read_symbol(
-        lend_symbols(call, last), call->symbols_len, lent_number(&lent, 0), lent_number(&lent, 1),
-        lent_number(&lent, 2), lent_number(&lent, 3), lent_number(&lent, 4), lent_number(&lent, 5));
+    uint64_t number =
+        opc_read_symbol(lend_symbols(call, last), call->order.symbols_len, lent_number(&lent, 0),
+                        lent_number(&lent, 1), lent_number(&lent, 2), lent_number(&lent, 3),
+                        lent_number(&lent, 4), lent_number(&lent, 5));
     expect_kept(call);
     expect_guards(call, &lent);
     *parts = (struct opc_symbol_parts){.root = *lent_number(&lent, 0),
@@ -257,7 +300,8 @@ static uint64_t read_directly(const struct call *call, bool last, struct opc_sym
 static void expect_read(const struct call *call, uint64_t number,
                         const struct opc_symbol_parts *parts) {
     struct opc_symbol_parts second;
-    uint64_t second_number = second_read_symbol(call->symbols, call->symbols_len, &second);
+    uint64_t second_number =
+        second_read_symbol(call->order.symbols, call->order.symbols_len, &second);
     expect_equal(call, "the number read", &number, &second_number, sizeof number);
     expect_equal(call, "the parts read", parts, &second, sizeof second);
 }
@@ -269,14 +313,15 @@ static void try_read(const struct call *call) {
     expect_read(call, number, &parts);
     expect_read(call, read_directly(call, false, &parts), &parts);
     memset(&parts, 0x5a, sizeof parts);
-    uint64_t inlined = opc_read_symbol_parts(lend_symbols(call, true), call->symbols_len, &parts);
+    uint64_t inlined =
+        opc_read_symbol_parts(lend_symbols(call, true), call->order.symbols_len, &parts);
     expect_kept(call);
     expect_read(call, inlined, &parts);
     if (number == OPC_ACCEPTED) {
         uint8_t again[OPC_SYMBOL_LENGTH];
         uint64_t written_number = unset[0];
         uint64_t len = opc_write_symbol_parts(&parts, again, sizeof again, &written_number);
-        bool same = len == sizeof again && memcmp(again, call->symbols, sizeof again) == 0;
+        bool same = len == sizeof again && memcmp(again, call->order.symbols, sizeof again) == 0;
         expect(same && written_number == OPC_ACCEPTED, call, "written again, not the same bytes");
     }
 }
@@ -325,13 +370,19 @@ static void try_write(const struct call *call) {
 
 #define TERMS_OF(call, last)                                                                       \
     lend_settings(call, last), (call)->settings_len, lend_market(call, last), (call)->market_len
-#define ORDER_OF(call, last)                                                                       \
-    lend_symbols(call, last), (call)->symbols_len, lend_counts(call, last), (call)->counts_len,    \
-        (call)->price, (call)->kind, (call)->stop, (call)->manual, (call)->opening,                \
-        TERMS_OF(call, last)
+#define FLAGS_OF(order) (order).stop, (order).manual, (order).opening
+#define PRICE_KIND_FLAGS_OF(order) (order).price, (order).kind, FLAGS_OF(order)
+#define ONE_ORDER_OF(call, last)                                                                   \
+    lend_symbols(call, last), (call)->order.symbols_len, lend_counts(call, last),                  \
+        (call)->order.counts_len, PRICE_KIND_FLAGS_OF((call)->order)
+#define CONTRA_OF(call, last)                                                                      \
+    lend_contra_symbols(call, last), (call)->contra.symbols_len, lend_contra_counts(call, last),   \
+        (call)->contra.counts_len, PRICE_KIND_FLAGS_OF((call)->contra)
+#define ORDER_OF(call, last) ONE_ORDER_OF(call, last), TERMS_OF(call, last)
 #define FIX_OF(call, last)                                                                         \
-    lend_message(call, last), (call)->message_len, (call)->stop, (call)->manual, (call)->opening,  \
-        TERMS_OF(call, last)
+    lend_message(call, last), (call)->message_len, FLAGS_OF((call)->order), TERMS_OF(call, last)
+#define PAIR_OF(call, last)                                                                        \
+    ONE_ORDER_OF(call, last), CONTRA_OF(call, last), (call)->continue_unpaired, TERMS_OF(call, last)
 
 /* The lent numbers of an answer, and of a tally after it. */
 #define ANSWER_IN(lent) lent_number(lent, 0), lent_number(lent, 1), lent_number(lent, 2)
@@ -372,7 +423,8 @@ static struct opc_answer check_inlined(const struct call *call) {
         struct opc_fix fix = fix_of(call, lend_message(call, last));
         answer = opc_answer_fix(&fix, settings, market);
     } else {
-        struct opc_order order = order_of(call, lend_symbols(call, last), lend_counts(call, last));
+        struct opc_order order =
+            order_of(&call->order, lend_symbols(call, last), lend_counts(call, last));
         answer = opc_answer_order(&order, settings, market);
     }
     expect_kept(call);
@@ -380,7 +432,7 @@ static struct opc_answer check_inlined(const struct call *call) {
 }
 
 static struct opc_answer check_second(const struct call *call) {
-    struct opc_order order = order_of(call, call->symbols, call->counts);
+    struct opc_order order = own_order(&call->order);
     struct opc_fix fix = fix_of(call, call->message);
     struct second_terms terms = terms_of(call);
     return is_message(call) ? second_check_fix(&fix, &terms) : second_check_order(&order, &terms);
@@ -390,10 +442,11 @@ static struct opc_answer check_second(const struct call *call) {
 static void try_count(const struct call *call) {
     uint8_t bytes[OPC_COUNT_LENGTH + 2];
     uint8_t expected[sizeof bytes];
+    int64_t price = call->order.price;
     memset(bytes, AROUND, sizeof bytes);
     memset(expected, AROUND, sizeof expected);
-    opc_write_count(call->price, bytes + 1);
-    memcpy(expected + 1, &call->price, OPC_COUNT_LENGTH); /* x86-64 keeps the low byte first */
+    opc_write_count(price, bytes + 1);
+    memcpy(expected + 1, &price, OPC_COUNT_LENGTH); /* x86-64 keeps the low byte first */
     expect(memcmp(bytes, expected, sizeof bytes) == 0, call, "a count written, of the price");
 }
 
@@ -405,13 +458,12 @@ static void swap_bytes(uint8_t *one, uint8_t *other, size_t len) {
 }
 
 /* Whole legs change places, where the slices divide into legs. */
-static void turn_legs(struct call *turned) {
+static void turn_legs(struct order *turned, uint32_t state) {
     size_t n = turned->counts_len / OPC_COUNT_LENGTH;
     bool whole = turned->counts_len % OPC_COUNT_LENGTH == 0;
     if (!whole || turned->symbols_len != n * OPC_SYMBOL_LENGTH) {
         return;
     }
-    uint32_t state = turned->choice;
     for (size_t i = n; i > 1; i--) {
         state = state * 1664525 + 1013904223;
         size_t other = (state >> 16) % i;
@@ -453,7 +505,7 @@ static void turn_groups(struct call *turned) {
 static struct call in_another_sequence(const struct call *call, uint64_t number) {
     struct call turned = *call;
     if (!is_message(call)) {
-        turn_legs(&turned);
+        turn_legs(&turned.order, call->choice);
     } else if (number != OPC_BAD_FRAME && number != OPC_BAD_TAG) {
         turn_groups(&turned);
     }
@@ -471,11 +523,12 @@ static uint64_t ask(const struct call *call, struct opc_answer *second) {
 
 /* The same order at the prices next to its own, and for the opposite amount. */
 static void ask_order_nearby(const struct call *call) {
-    const int64_t prices[] = {call->price - 1, call->price + 1, -call->price};
+    int64_t price = call->order.price;
+    const int64_t prices[] = {price - 1, price + 1, -price};
     struct call near = *call;
     struct opc_answer second;
     for (size_t i = 0; i < sizeof prices / sizeof prices[0]; i++) {
-        near.price = prices[i];
+        near.order.price = prices[i];
         ask(&near, &second);
     }
 }
@@ -548,7 +601,8 @@ static struct opc_answer tallied_inlined(const struct call *call, struct opc_tal
         struct opc_fix fix = fix_of(call, lend_message(call, last));
         answer = opc_answer_fix_tallied(&fix, settings, market, tally);
     } else {
-        struct opc_order order = order_of(call, lend_symbols(call, last), lend_counts(call, last));
+        struct opc_order order =
+            order_of(&call->order, lend_symbols(call, last), lend_counts(call, last));
         answer = opc_answer_order_tallied(&order, settings, market, tally);
     }
     expect_kept(call);
@@ -556,7 +610,7 @@ static struct opc_answer tallied_inlined(const struct call *call, struct opc_tal
 }
 
 static struct opc_answer tallied_second(const struct call *call, struct opc_tally *tally) {
-    struct opc_order order = order_of(call, call->symbols, call->counts);
+    struct opc_order order = own_order(&call->order);
     struct opc_fix fix = fix_of(call, call->message);
     struct second_terms terms = terms_of(call);
     return is_message(call) ? second_check_fix_tallied(&fix, &terms, tally)
@@ -597,13 +651,124 @@ static void try_tallied(const struct call *call) {
     expect_equal(&turned, "the tally in another sequence", &tally, &second_tally, sizeof tally);
 }
 
+/* ---- Pairs. ---- */
+
+static struct opc_pair_answer pair_directly(const struct call *call, bool last) {
+    struct lent_numbers lent = lend_numbers(unset[last]);
+    struct opc_pair_answer answer;
+    answer.number = opc_check_pair(PAIR_OF(call, last), ANSWER_IN(&lent));
+    answer.contra_number = *lent_number(&lent, 0);
+    answer.agency_passes = *lent_number(&lent, 1);
+    answer.contra_passes = *lent_number(&lent, 2);
+    expect_kept(call);
+    expect_guards(call, &lent);
+    return answer;
+}
+
+/* Orders with the same symbols may be lent one slice of them, as a host does for the two sides of
+ * one order. */
+static bool is_slice_shared(const struct call *call) {
+    const struct order *one = &call->order, *other = &call->contra;
+    return (call->choice & 4) == 4 && one->symbols_len == other->symbols_len &&
+           memcmp(one->symbols, other->symbols, one->symbols_len) == 0;
+}
+
+/* Where there are structs; otherwise directly. */
+static struct opc_pair_answer pair_inlined(const struct call *call) {
+    bool last = (call->choice & 2) == 2;
+    if (!has_structs(call)) {
+        return pair_directly(call, last);
+    }
+    const uint8_t *symbols = lend_symbols(call, last);
+    const uint8_t *contra_symbols =
+        is_slice_shared(call) ? symbols : lend_contra_symbols(call, last);
+    struct opc_pair pair = {
+        .agency = order_of(&call->order, symbols, lend_counts(call, last)),
+        .contra = order_of(&call->contra, contra_symbols, lend_contra_counts(call, last)),
+        .continue_unpaired = call->continue_unpaired};
+    struct opc_pair_answer answer =
+        opc_answer_pair(&pair, lend_settings(call, last), lend_market(call, last));
+    expect_kept(call);
+    return answer;
+}
+
+/* Both answers to a pair, counted. */
+static struct opc_pair_answer ask_pair(const struct call *call) {
+    struct opc_pair pair = own_pair(call);
+    struct second_terms terms = terms_of(call);
+    struct opc_pair_answer second = second_check_pair(&pair, &terms);
+    struct opc_pair_answer answer = pair_directly(call, true);
+    expect_equal(call, "the answer to a pair", &answer, &second, sizeof answer);
+    count_pair(call, &answer);
+    return answer;
+}
+
+/* The number of one order of the pair, which it gets alone. */
+static void expect_alone(const struct call *call, const struct order *order, uint64_t number) {
+    struct call alone = *call;
+    alone.entry = CHECK_ORDER;
+    alone.order = *order;
+    uint64_t own = check_inlined(&alone).number;
+    expect_equal(call, "an order's number in the pair and alone", &number, &own, sizeof own);
+}
+
+/* The legs of either order, or of both, in another sequence. */
+static void expect_in_sequences(const struct call *call, const struct opc_pair_answer *expected) {
+    for (int which = 1; which <= 3; which++) {
+        struct call turned = *call;
+        if ((which & 1) == 1) {
+            turn_legs(&turned.order, call->choice);
+        }
+        if ((which & 2) == 2) {
+            turn_legs(&turned.contra, call->choice + 1u);
+        }
+        struct opc_pair_answer answer = pair_inlined(&turned);
+        expect_equal(&turned, "the answer to a pair in another sequence", &answer, expected,
+                     sizeof answer);
+    }
+}
+
+/* The agency order in the contra order's place, and the contra order in its place. */
+static void ask_exchanged(const struct call *call, const struct opc_pair_answer *answer) {
+    struct call exchanged = *call;
+    exchanged.order = call->contra;
+    exchanged.contra = call->order;
+    struct opc_pair_answer other = ask_pair(&exchanged);
+    uint64_t given[] = {other.number, other.contra_number};
+    uint64_t expected[] = {answer->contra_number, answer->number};
+    expect_equal(&exchanged, "the numbers of orders exchanged", given, expected, sizeof given);
+}
+
+/* The mark to continue unpaired has no part in the numbers. */
+static void ask_marked_otherwise(const struct call *call, const struct opc_pair_answer *answer) {
+    struct call marked = *call;
+    marked.continue_unpaired = call->continue_unpaired == 0;
+    struct opc_pair_answer other = ask_pair(&marked);
+    uint64_t given[] = {other.number, other.contra_number};
+    uint64_t expected[] = {answer->number, answer->contra_number};
+    expect_equal(&marked, "the numbers with another mark", given, expected, sizeof given);
+}
+
+static void try_pair(const struct call *call) {
+    struct opc_pair_answer first = ask_pair(call);
+    struct opc_pair_answer answer = pair_directly(call, false);
+    expect_equal(call, "the answer to the pair again", &answer, &first, sizeof answer);
+    answer = pair_inlined(call);
+    expect_equal(call, "the answer through structs", &answer, &first, sizeof answer);
+    expect_alone(call, &call->order, first.number);
+    expect_alone(call, &call->contra, first.contra_number);
+    expect_in_sequences(call, &first);
+    ask_exchanged(call, &first);
+    ask_marked_otherwise(call, &first);
+}
+
 /* ---- Quotes. ---- */
 
 static struct opc_quote_answer quote_directly(const struct call *call, bool last) {
     struct lent_numbers lent = lend_numbers(unset[last]);
     struct opc_quote_answer answer;
     answer.number =
-        opc_check_quote(lend_symbols(call, last), call->symbols_len, call->bid, call->offer,
+        opc_check_quote(lend_symbols(call, last), call->order.symbols_len, call->bid, call->offer,
                         call->resting, TERMS_OF(call, last), lent_number(&lent, 0));
     answer.cancel = *lent_number(&lent, 0);
     expect_kept(call);
@@ -613,7 +778,7 @@ static struct opc_quote_answer quote_directly(const struct call *call, bool last
 
 /* Both answers to a quote, counted; gives the number. */
 static uint64_t ask_quote(const struct call *call, struct opc_quote_answer *second) {
-    struct opc_quote quote = quote_of(call, call->symbols);
+    struct opc_quote quote = quote_of(call, call->order.symbols);
     struct second_terms terms = terms_of(call);
     *second = second_check_quote(&quote, &terms);
     struct opc_quote_answer answer = quote_directly(call, true);
@@ -672,8 +837,9 @@ int LLVMFuzzerInitialize(int *argc, char ***argv) {
 
 int LLVMFuzzerTestOneInput(const uint8_t *data, size_t size) {
     static const enum entry entries[] = {
-        READ_SYMBOL, WRITE_SYMBOL, CHECK_ORDER, CHECK_ORDER, CHECK_ORDER, CHECK_ORDER_TALLIED,
-        CHECK_QUOTE, CHECK_QUOTE,  CHECK_FIX,   CHECK_FIX,   CHECK_FIX,   CHECK_FIX_TALLIED};
+        READ_SYMBOL,         WRITE_SYMBOL,      CHECK_ORDER, CHECK_ORDER, CHECK_ORDER,
+        CHECK_ORDER_TALLIED, CHECK_QUOTE,       CHECK_QUOTE, CHECK_FIX,   CHECK_FIX,
+        CHECK_FIX,           CHECK_FIX_TALLIED, CHECK_PAIR,  CHECK_PAIR};
     struct input in = {data, size};
     struct call call;
     memset(&call, 0, sizeof call);
@@ -687,6 +853,9 @@ int LLVMFuzzerTestOneInput(const uint8_t *data, size_t size) {
         break;
     case WRITE_SYMBOL:
         try_write(&call);
+        break;
+    case CHECK_PAIR:
+        try_pair(&call);
         break;
     case CHECK_QUOTE:
         try_quote(&call);

@@ -129,23 +129,23 @@ static inline void put_number(struct input *in, struct text *body, uint64_t numb
     }
 }
 
-static inline void put_kind(struct input *in, struct text *body, const struct call *call) {
+static inline void put_kind(struct input *in, struct text *body, const struct order *order) {
     static const char *const others[] = {"", "0", "3", "12", "21", "1 ", "x"};
     uint8_t byte = take(in);
     if (byte < 248) {
-        put(body, "40=%c|", call->kind == OPC_KIND_LIMIT ? '2' : '1');
+        put(body, "40=%c|", order->kind == OPC_KIND_LIMIT ? '2' : '1');
     } else {
         put(body, "40=%s|", PICK(in, others));
     }
 }
 
-static inline void put_price(struct input *in, struct text *body, const struct call *call) {
+static inline void put_price(struct input *in, struct text *body, const struct order *order) {
     static const char *const others[] = {"",   "-",    ".",    "-.",   "+1",    "--1", "1.", ".5",
                                          "-0", "-0.0", "1..2", "1.2.", "1.234", "1,5", " 1", "1-"};
     static const char *const largest[] = {"999999999999999.999", "-999999999999999.999",
                                           "1000000000000000", "0000000000000001.5"};
-    uint64_t size = call->price < 0 ? 0 - (uint64_t)call->price : (uint64_t)call->price;
-    const char *sign = call->price < 0 ? "-" : "";
+    uint64_t size = order->price < 0 ? 0 - (uint64_t)order->price : (uint64_t)order->price;
+    const char *sign = order->price < 0 ? "-" : "";
     uint8_t byte = take(in);
     if (byte < 160) {
         put(body, "44=%s%" PRIu64 ".%03" PRIu64 "|", sign, size / 1000, size % 1000);
@@ -158,15 +158,15 @@ static inline void put_price(struct input *in, struct text *body, const struct c
     }
 }
 
-static inline void put_group(struct input *in, struct text *body, const struct call *call,
+static inline void put_group(struct input *in, struct text *body, const struct order *order,
                              size_t leg) {
     static const char *const sides[] = {"", "0", "3", "11", "2 ", "x"};
     int64_t count;
-    memcpy(&count, call->counts + leg * OPC_COUNT_LENGTH, sizeof count); /* low byte first */
+    memcpy(&count, order->counts + leg * OPC_COUNT_LENGTH, sizeof count); /* low byte first */
     uint8_t byte = take(in);
     put(body, "600=");
     /* Seldom of another length. */
-    put_bytes(body, call->symbols + leg * OPC_SYMBOL_LENGTH,
+    put_bytes(body, order->symbols + leg * OPC_SYMBOL_LENGTH,
               byte < 250 ? OPC_SYMBOL_LENGTH : byte - 230u);
     put(body, "|623=");
     put_number(in, body, count < 0 ? 0 - (uint64_t)count : (uint64_t)count);
@@ -177,32 +177,32 @@ static inline void put_group(struct input *in, struct text *body, const struct c
     }
 }
 
-static inline void put_groups(struct input *in, struct text *body, const struct call *call) {
-    size_t legs = call->counts_len / OPC_COUNT_LENGTH;
-    if (legs * OPC_SYMBOL_LENGTH > call->symbols_len) {
-        legs = call->symbols_len / OPC_SYMBOL_LENGTH;
+static inline void put_groups(struct input *in, struct text *body, const struct order *order) {
+    size_t legs = order->counts_len / OPC_COUNT_LENGTH;
+    if (legs * OPC_SYMBOL_LENGTH > order->symbols_len) {
+        legs = order->symbols_len / OPC_SYMBOL_LENGTH;
     }
     put(body, "555=");
     put_number(in, body, legs);
     put(body, "|");
     for (size_t i = 0; i < legs; i++) {
-        put_group(in, body, call, i);
+        put_group(in, body, order, i);
     }
 }
 
 /* Kind, price and legs in one of their six sequences, with other fields about them. */
-static inline void put_order(struct input *in, struct text *body, const struct call *call) {
+static inline void put_order(struct input *in, struct text *body, const struct order *order) {
     static const uint8_t sequences[][3] = {{0, 1, 2}, {0, 2, 1}, {1, 0, 2},
                                            {1, 2, 0}, {2, 0, 1}, {2, 1, 0}};
     const uint8_t *sequence = PICK(in, sequences);
     for (size_t i = 0; i < 3; i++) {
         put_other(in, body);
         if (sequence[i] == 0) {
-            put_kind(in, body, call);
+            put_kind(in, body, order);
         } else if (sequence[i] == 1) {
-            put_price(in, body, call);
+            put_price(in, body, order);
         } else {
-            put_groups(in, body, call);
+            put_groups(in, body, order);
         }
     }
     put_other(in, body);
@@ -277,7 +277,7 @@ static inline struct frame_form shaped_frame(struct input *in) {
 /* The call's message, of the order that it holds. */
 static inline void shaped_message(struct input *in, struct call *call) {
     struct text body = {.len = 0}, message;
-    put_order(in, &body, call);
+    put_order(in, &body, &call->order);
     for (uint8_t times = take(in); times >= 192; times = (uint8_t)(times << 1)) {
         damage_text(in, &body);
     }

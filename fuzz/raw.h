@@ -8,16 +8,16 @@
 #include "call.h"
 #include "messages.h"
 
-static inline void raw_slices(struct input *in, struct call *call) {
-    if (is_order(call)) {
-        call->symbols_len = (size_t)take_number(in, 2) % MOST_SYMBOL_BYTES;
-        call->counts_len = take(in) % MOST_COUNT_BYTES;
-    } else {
-        call->symbols_len = take(in) % MOST_BYTES_OF_ONE;
-        call->counts_len = 0;
-    }
-    take_bytes(in, call->symbols, call->symbols_len);
-    take_bytes(in, call->counts, call->counts_len);
+static inline void raw_legs(struct input *in, struct order *order) {
+    order->symbols_len = (size_t)take_number(in, 2) % MOST_SYMBOL_BYTES;
+    order->counts_len = take(in) % MOST_COUNT_BYTES;
+    take_bytes(in, order->symbols, order->symbols_len);
+    take_bytes(in, order->counts, order->counts_len);
+}
+
+static inline void raw_symbol(struct input *in, struct call *call) {
+    call->order.symbols_len = take(in) % MOST_BYTES_OF_ONE;
+    take_bytes(in, call->order.symbols, call->order.symbols_len);
 }
 
 /* Gives how many were taken. */
@@ -34,10 +34,13 @@ static inline void raw_settings_and_market(struct input *in, struct call *call) 
     call->market_len = raw_numbers(in, call->market, MOST_MARKET_VALUES);
 }
 
+static inline void raw_flags(struct input *in, struct order *order) {
+    order->stop = take_number(in, 8);
+    order->manual = take_number(in, 8);
+    order->opening = take_number(in, 8);
+}
+
 static inline void raw_terms(struct input *in, struct call *call) {
-    call->stop = take_number(in, 8);
-    call->manual = take_number(in, 8);
-    call->opening = take_number(in, 8);
     raw_settings_and_market(in, call);
     if (is_tallied(call)) {
         call->tally.seen = take_number(in, 8);
@@ -47,11 +50,23 @@ static inline void raw_terms(struct input *in, struct call *call) {
     }
 }
 
+static inline void raw_one_order(struct input *in, struct order *order) {
+    raw_legs(in, order);
+    order->price = (int64_t)take_number(in, 8);
+    order->kind = take_number(in, 8);
+    raw_flags(in, order);
+}
+
 static inline void raw_order(struct input *in, struct call *call) {
-    raw_slices(in, call);
-    call->price = (int64_t)take_number(in, 8);
-    call->kind = take_number(in, 8);
+    raw_one_order(in, &call->order);
     raw_terms(in, call);
+}
+
+static inline void raw_pair(struct input *in, struct call *call) {
+    raw_one_order(in, &call->order);
+    raw_one_order(in, &call->contra);
+    call->continue_unpaired = take_number(in, 8);
+    raw_settings_and_market(in, call);
 }
 
 /* The bytes are the message itself, or a body that a right frame is put around. */
@@ -66,11 +81,12 @@ static inline void raw_fix(struct input *in, struct call *call) {
         call->message_len = body.len;
         memcpy(call->message, body.bytes, body.len);
     }
+    raw_flags(in, &call->order);
     raw_terms(in, call);
 }
 
 static inline void raw_quote(struct input *in, struct call *call) {
-    raw_slices(in, call);
+    raw_symbol(in, call);
     call->bid = take_number(in, 8);
     call->offer = take_number(in, 8);
     call->resting = take_number(in, 8);
@@ -88,9 +104,9 @@ static inline void raw_parts(struct input *in, struct call *call) {
 }
 
 static form *const raw_forms[ENTRIES] = {
-    [READ_SYMBOL] = raw_slices,        [WRITE_SYMBOL] = raw_parts, [CHECK_ORDER] = raw_order,
+    [READ_SYMBOL] = raw_symbol,        [WRITE_SYMBOL] = raw_parts, [CHECK_ORDER] = raw_order,
     [CHECK_ORDER_TALLIED] = raw_order, [CHECK_FIX] = raw_fix,      [CHECK_FIX_TALLIED] = raw_fix,
-    [CHECK_QUOTE] = raw_quote,
+    [CHECK_PAIR] = raw_pair,           [CHECK_QUOTE] = raw_quote,
 };
 
 #endif

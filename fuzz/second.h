@@ -25,6 +25,8 @@ struct opc_answer second_check_fix(const struct opc_fix *fix, const struct secon
 struct opc_answer second_check_fix_tallied(const struct opc_fix *fix,
                                            const struct second_terms *terms,
                                            struct opc_tally *tally);
+struct opc_pair_answer second_check_pair(const struct opc_pair *pair,
+                                         const struct second_terms *terms);
 struct opc_quote_answer second_check_quote(const struct opc_quote *quote,
                                            const struct second_terms *terms);
 
@@ -33,6 +35,7 @@ void second_print_order(const struct opc_order *order, const struct second_terms
                         const struct opc_tally *tally);
 void second_print_fix(const struct opc_fix *fix, const struct second_terms *terms,
                       const struct opc_tally *tally);
+void second_print_pair(const struct opc_pair *pair, const struct second_terms *terms);
 void second_print_quote(const struct opc_quote *quote, const struct second_terms *terms);
 
 /* Writes inputs to begin with, one file each. */

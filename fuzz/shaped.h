@@ -224,37 +224,37 @@ static inline void damage_symbol(struct input *in, uint8_t *symbol, size_t len) 
     }
 }
 
-static inline void put_legs(struct call *call, const char *root, const struct shaped_leg *legs,
+static inline void put_legs(struct order *order, const char *root, const struct shaped_leg *legs,
                             size_t n) {
     for (size_t i = 0; i < n; i++) {
-        write_series(call->symbols + i * OPC_SYMBOL_LENGTH, root, &legs[i]);
-        opc_write_count(legs[i].count, call->counts + i * OPC_COUNT_LENGTH);
+        write_series(order->symbols + i * OPC_SYMBOL_LENGTH, root, &legs[i]);
+        opc_write_count(legs[i].count, order->counts + i * OPC_COUNT_LENGTH);
     }
-    call->symbols_len = n * OPC_SYMBOL_LENGTH;
-    call->counts_len = n * OPC_COUNT_LENGTH;
+    order->symbols_len = n * OPC_SYMBOL_LENGTH;
+    order->counts_len = n * OPC_COUNT_LENGTH;
 }
 
 /* Makes one thing of the legs wrong. */
-static inline void damage_legs(struct input *in, struct call *call) {
+static inline void damage_legs(struct input *in, struct order *order) {
     static const int64_t counts[] = {0, 10001, -10001, INT64_MIN, INT64_MAX, 10000, -10000, 65537};
-    size_t n = call->counts_len / OPC_COUNT_LENGTH;
+    size_t n = order->counts_len / OPC_COUNT_LENGTH;
     uint8_t kind = take(in) % 9;
     size_t leg = n == 0 ? 0 : take(in) % n;
-    uint8_t *symbol = call->symbols + leg * OPC_SYMBOL_LENGTH;
+    uint8_t *symbol = order->symbols + leg * OPC_SYMBOL_LENGTH;
     if (kind < 2 && n > 0) {
         damage_symbol(in, symbol, OPC_SYMBOL_LENGTH);
     } else if (kind < 4 && n > 0) {
-        opc_write_count(PICK(in, counts), call->counts + leg * OPC_COUNT_LENGTH);
+        opc_write_count(PICK(in, counts), order->counts + leg * OPC_COUNT_LENGTH);
     } else if (kind == 4) {
-        memcpy(call->symbols, symbol, OPC_SYMBOL_LENGTH); /* perhaps a series twice */
+        memcpy(order->symbols, symbol, OPC_SYMBOL_LENGTH); /* perhaps a series twice */
     } else if (kind == 5) {
         symbol[1] = symbol[1] == 'B' ? 'C' : 'B'; /* perhaps another root */
     } else if (kind == 6) {
         memset(symbol, take(in), 6); /* one byte for a root */
     } else if (kind == 7) {
-        call->symbols_len = (call->symbols_len + take(in)) % MOST_SYMBOL_BYTES;
+        order->symbols_len = (order->symbols_len + take(in)) % MOST_SYMBOL_BYTES;
     } else {
-        call->counts_len = (call->counts_len + take(in)) % MOST_COUNT_BYTES;
+        order->counts_len = (order->counts_len + take(in)) % MOST_COUNT_BYTES;
     }
 }
 
@@ -461,24 +461,45 @@ static inline struct opc_tally shaped_tally(struct input *in) {
     return tally;
 }
 
-static inline void shaped_order(struct input *in, struct call *call) {
+/* The legs that an order is made with, and what they were drawn from. */
+struct draft {
+    struct pool pool;
     struct shaped_leg legs[SHAPED_LEGS];
-    struct pool pool = shaped_pool(in);
-    size_t n = shaped_legs(in, &pool, legs);
-    struct terms terms = shaped_terms(in, n == 0 ? 1 : legs[0].strike);
-    call->price = shaped_order_price(in, &terms, legs, n);
-    call->kind = shaped_flag(in, 192);
-    call->stop = shaped_flag(in, 224);
-    call->manual = shaped_flag(in, 224);
-    call->opening = shaped_flag(in, 192);
-    scale(in, legs, n);
-    put_legs(call, pool.root, legs, n);
+    size_t n;
+};
+
+static inline struct draft shaped_draft(struct input *in) {
+    struct draft draft;
+    draft.pool = shaped_pool(in);
+    draft.n = shaped_legs(in, &draft.pool, draft.legs);
+    return draft;
+}
+
+static inline void shaped_kind_and_flags(struct input *in, struct order *order) {
+    order->kind = shaped_flag(in, 192);
+    order->stop = shaped_flag(in, 224);
+    order->manual = shaped_flag(in, 224);
+    order->opening = shaped_flag(in, 192);
+}
+
+static inline void finish_order(struct input *in, struct order *order, struct draft *draft,
+                                const struct terms *terms) {
+    order->price = shaped_order_price(in, terms, draft->legs, draft->n);
+    shaped_kind_and_flags(in, order);
+    scale(in, draft->legs, draft->n);
+    put_legs(order, draft->pool.root, draft->legs, draft->n);
+}
+
+static inline void shaped_order(struct input *in, struct call *call) {
+    struct draft draft = shaped_draft(in);
+    struct terms terms = shaped_terms(in, draft.n == 0 ? 1 : draft.legs[0].strike);
+    finish_order(in, &call->order, &draft, &terms);
     put_terms(in, call, &terms);
     if (is_tallied(call)) {
         call->tally = shaped_tally(in);
     }
     if (take(in) >= 208) {
-        damage_legs(in, call);
+        damage_legs(in, &call->order);
     }
 }
 
@@ -487,19 +508,73 @@ static inline void shaped_fix(struct input *in, struct call *call) {
     shaped_message(in, call);
 }
 
+/* The other side of an order: every count has the other sign, and so has the price. */
+static inline void turn_side(struct order *order) {
+    for (size_t i = 0; i < order->counts_len / OPC_COUNT_LENGTH; i++) {
+        uint64_t count;
+        memcpy(&count, order->counts + i * OPC_COUNT_LENGTH, sizeof count); /* low byte first */
+        opc_write_count((int64_t)(0 - count), order->counts + i * OPC_COUNT_LENGTH);
+    }
+    order->price = (int64_t)(0 - (uint64_t)order->price);
+}
+
+/* Makes one thing of an order wrong, or perhaps just another. */
+static inline void damage_order(struct input *in, struct order *order) {
+    static const int64_t prices[] = {0,         1,         -1, 1000000000001, -1000000000001,
+                                     INT64_MAX, INT64_MIN, 30};
+    uint8_t byte = take(in);
+    if (byte < 128) {
+        damage_legs(in, order);
+    } else if (byte < 192) {
+        order->price = PICK(in, prices);
+    } else {
+        order->price = (int64_t)(0 - (uint64_t)order->price);
+    }
+}
+
+/* Often the other side of the agency order; or the same order, or another one. Then perhaps with
+ * flags of its own, or with a fault. */
+static inline void shaped_contra(struct input *in, struct call *call, const struct terms *terms) {
+    uint8_t form = take(in) % 16;
+    if (form >= 12) {
+        struct draft draft = shaped_draft(in);
+        finish_order(in, &call->contra, &draft, terms);
+    } else {
+        call->contra = call->order;
+        if (form < 9) {
+            turn_side(&call->contra);
+        }
+        if (take(in) >= 192) {
+            shaped_kind_and_flags(in, &call->contra);
+        }
+    }
+    if (take(in) >= 176) {
+        damage_order(in, &call->contra);
+    }
+}
+
+static inline void shaped_pair(struct input *in, struct call *call) {
+    struct terms terms;
+    shaped_order(in, call);
+    memcpy(&terms.settings, call->settings, sizeof terms.settings);
+    memcpy(&terms.market, call->market, sizeof terms.market);
+    shaped_contra(in, call, &terms);
+    call->continue_unpaired = shaped_flag(in, 112);
+}
+
 /*
  * The one symbol of the call. The next byte of the input says whether it is whole, or of another
  * length (from `cut` up), or damaged (from `damaged` up).
  */
 static inline void shaped_symbol(struct input *in, struct call *call, const struct pool *pool,
                                  const struct shaped_leg *leg, uint8_t cut, uint8_t damaged) {
-    write_series(call->symbols, pool->root, leg);
-    call->symbols_len = OPC_SYMBOL_LENGTH;
+    write_series(call->order.symbols, pool->root, leg);
+    call->order.symbols_len = OPC_SYMBOL_LENGTH;
     uint8_t byte = take(in);
     if (byte >= damaged) {
-        damage_symbol(in, call->symbols, OPC_SYMBOL_LENGTH);
+        damage_symbol(in, call->order.symbols, OPC_SYMBOL_LENGTH);
     } else if (byte >= cut) {
-        call->symbols_len = take(in) % MOST_BYTES_OF_ONE;
+        call->order.symbols_len = take(in) % MOST_BYTES_OF_ONE;
     }
 }
 
@@ -579,7 +654,7 @@ static form *const shaped_forms[ENTRIES] = {
     [READ_SYMBOL] = shaped_read,  [WRITE_SYMBOL] = shaped_write,
     [CHECK_ORDER] = shaped_order, [CHECK_ORDER_TALLIED] = shaped_order,
     [CHECK_FIX] = shaped_fix,     [CHECK_FIX_TALLIED] = shaped_fix,
-    [CHECK_QUOTE] = shaped_quote,
+    [CHECK_PAIR] = shaped_pair,   [CHECK_QUOTE] = shaped_quote,
 };
 
 #endif

@@ -48,7 +48,8 @@ extern "C" {
 /* What a number says of an order, a message, a quote or a symbol. */
 enum opc_outcome {
     OPC_OUTCOME_ACCEPTED = 0,
-    OPC_OUTCOME_REFUSED = 1, /* not judged; all other numbers but a tally's are 0 */
+    OPC_OUTCOME_REFUSED = 1, /* not judged; all other numbers are 0, but a tally's, and of a pair
+                              * the other order's */
     OPC_OUTCOME_REJECTED = 2 /* by a check of the exchange */
 };
 
@@ -586,8 +587,8 @@ struct opc_pair_answer {
 
 /*
  * Checks both orders of a pair against the same settings and market. The fields, with their limits
- * and units, are those of struct opc_order, twice, of struct opc_pair, opc_settings and opc_market,
- * in the same sequence.
+ * and units, are those of struct opc_pair, each order's one by one, opc_settings and opc_market, in
+ * the same sequence.
  *
  * Returns the number that opc_check_order gives for the agency order, and sets *contra_number to
  * the one that it gives for the contra order. Each is the order's own, a refusal's too, whatever
@@ -597,7 +598,7 @@ struct opc_pair_answer {
  *   1 and 1  both numbers are OPC_ACCEPTED;
  *   1 and 0  the agency order's number is OPC_ACCEPTED, the contra order's is not, refused or
  *            rejected, and continue_unpaired is not 0;
- *   0 and 0  otherwise: an agency order that fails stops both.
+ *   0 and 0  otherwise: whatever the mark, an agency order that fails stops both.
  *
  * The sequence of the legs within either order does not matter to any of the four.
  */

@@ -7,6 +7,7 @@ use crate::{
     message::Message,
     numbers::{kind, Kind},
     order,
+    pair::{self, Pair, PairAnswer},
     quote::{Quote, QuoteAnswer},
     quote_check,
     run::Seen,
@@ -53,15 +54,8 @@ impl Case for Arrival {
 
     fn described(&self) -> String {
         format!(
-            "  legs: {}
-  price {}, kind {}, stop {}, manual {}, opening {}
-{}",
-            self.legs_as_text(),
-            self.price,
-            self.kind,
-            self.stop,
-            self.manual,
-            self.opening,
+            "{}\n{}",
+            order_described(self),
             terms(&self.settings, &self.market),
         )
     }
@@ -70,6 +64,19 @@ impl Case for Arrival {
         seen.count_lengths(&self.settings, &self.market);
         count_answer(answer, seen);
     }
+}
+
+fn order_described(arrival: &Arrival) -> String {
+    format!(
+        "  legs: {}
+  price {}, kind {}, stop {}, manual {}, opening {}",
+        arrival.legs_as_text(),
+        arrival.price,
+        arrival.kind,
+        arrival.stop,
+        arrival.manual,
+        arrival.opening,
+    )
 }
 
 /// Classes, shapes and pairings are those of valid orders.
@@ -141,6 +148,40 @@ impl<A: Arriving> Case for Tallied<A> {
 
     fn count(&self, answer: &TalliedAnswer, seen: &mut Seen) {
         self.arrival.count(&answer.answer, seen);
+    }
+}
+
+impl Case for Pair {
+    type Answer = PairAnswer;
+
+    fn library(&self) -> PairAnswer {
+        unit::check_pair(self)
+    }
+
+    fn second(&self) -> PairAnswer {
+        pair::check(self)
+    }
+
+    fn described(&self) -> String {
+        let [agency, contra] = self.orders().map(|order| order_described(&order));
+        format!(
+            "  pair, continue unpaired {}
+  agency order:
+{agency}
+  contra order:
+{contra}
+{}",
+            self.continue_unpaired,
+            terms(&self.settings, &self.market),
+        )
+    }
+
+    fn count(&self, answer: &PairAnswer, seen: &mut Seen) {
+        seen.count_lengths(&self.settings, &self.market);
+        *seen.numbers.entry(answer.number).or_default() += 1;
+        *seen.contra_numbers.entry(answer.contra_number).or_default() += 1;
+        let passing = answer.agency_passes + answer.contra_passes;
+        *seen.passing.entry(passing).or_default() += 1;
     }
 }
 

@@ -1,14 +1,16 @@
 //! The cases that every implementation is held to: the files `cases/*.desk`, lines of the desk's
-//! form (`host/desk --help`), each order, message and quote with its expected answer after `#=`.
+//! form (`host/desk --help`), each order, message, pair and quote with its expected answer after
+//! `#=`.
 //!
-//! A line that cannot be read is an error with its place, and so is an order, a message or a quote
-//! without an answer: no case is passed over.
+//! A line that cannot be read is an error with its place, and so is an order, a message, a pair or
+//! a quote without an answer: no case is passed over.
 
 use crate::{
     arrival::{Answer, Arrival, RawLeg},
     case::Case,
     message::{Message, END},
     numbers::{self, kind, Kind, Of},
+    pair::{Pair, PairAnswer},
     quote::{Quote, QuoteAnswer},
     slices::{market, setting, EXAMPLE_MARKET, EXAMPLE_SETTINGS},
     text::{mills, whole},
@@ -27,6 +29,7 @@ pub struct Expected<C: Case> {
 pub struct Cases {
     pub orders: Vec<Expected<Arrival>>,
     pub messages: Vec<Expected<Message>>,
+    pub pairs: Vec<Expected<Pair>>,
     pub quotes: Vec<Expected<Quote>>,
 }
 
@@ -72,6 +75,11 @@ impl Cases {
                 place,
                 case: line.message(terms)?,
                 answer: line.answer(|text| order_answer(Of::Message, text))?,
+            }),
+            b"pair" => self.pairs.push(Expected {
+                place,
+                case: line.pair(terms)?,
+                answer: line.answer(pair_answer)?,
             }),
             b"quote" => self.quotes.push(Expected {
                 place,
@@ -196,6 +204,34 @@ impl<'a> Rest<'a> {
         })
     }
 
+    /// The mark or none, and two orders.
+    fn pair(&mut self, terms: &Terms) -> Result<Pair, String> {
+        let is_marked = self.peek() == b"unpaired";
+        if is_marked {
+            self.field();
+        }
+        let [mut agency, contra] = self.parted()?;
+        let agency = agency.order(terms)?;
+        *self = contra;
+        Ok(Pair::of(&agency, &self.order(terms)?, is_marked.into()))
+    }
+
+    /// What stands before the stroke, a field by itself, and what stands after it.
+    fn parted(&self) -> Result<[Self; 2], String> {
+        let mut rest = Rest(self.0);
+        let mut strokes = Vec::new();
+        while !rest.peek().is_empty() {
+            let place = self.0.len() - rest.0.len();
+            if rest.field() == b"/" {
+                strokes.push(place);
+            }
+        }
+        match strokes[..] {
+            [place] => Ok([&self.0[..place], &self.0[place + 1..]].map(Rest)),
+            _ => Err(format!("not one '/' but {}", strokes.len())),
+        }
+    }
+
     /// Flags, and a message: all after one blank, up to the blanks before the answer. A bar is the
     /// byte that ends a field.
     fn message(&mut self, terms: &Terms) -> Result<Message, String> {
@@ -288,10 +324,11 @@ fn signed(text: &str, size: fn(&str) -> Option<u64>) -> Option<i64> {
     i64::try_from(sign * i128::from(size(digits)?)).ok()
 }
 
-/// The names of classes and of shapes, each at its number.
+/// The names of classes and of shapes, and whether an order passes, each at its number.
 const CLASSES: [&str; 3] = ["undetermined", "debit", "credit"];
 #[rustfmt::skip]
 const SHAPES: [&str; 5] = ["other", "vertical", "true butterfly", "skewed butterfly", "box"];
+const PASSES: [&str; 2] = ["stopped", "passes"];
 
 fn place(names: &[&str], name: &str) -> Option<u64> {
     let place = names.iter().position(|&known| known == name);
@@ -316,6 +353,22 @@ fn order_answer(what: Of, text: &str) -> Option<Answer> {
         class: place(&CLASSES, class)?,
         shape: place(&SHAPES, shape)?,
         pairings: whole(pairings)?,
+    })
+}
+
+/// NUMBER WORD of the agency order, a stroke, and the same of the contra order.
+fn pair_answer(text: &str) -> Option<PairAnswer> {
+    let side = |text: &str| {
+        let (number, word) = text.split_once(' ')?;
+        Some((number_of(Of::Order, number)?, place(&PASSES, word)?))
+    };
+    let (agency, contra) = text.split_once(" / ")?;
+    let [(number, agency_passes), (contra_number, contra_passes)] = [side(agency)?, side(contra)?];
+    Some(PairAnswer {
+        number,
+        contra_number,
+        agency_passes,
+        contra_passes,
     })
 }
 
@@ -375,6 +428,41 @@ order 1 +1 ; 270115 C 20 #= 4
 order 1 +1 XYZ 270115 C 20; #= 4
 order 1 +1 XYZ 270115 C 20 +1 XYZ 270115 C 21 #= 4
 order 1 +1 XYZ   270115C000200000 #= 4
+order 1 / #= 3
+reset /
+pair 1 / 1
+pair 1 / 1 #= 3
+pair 1 / 1 #= 3 stopped
+pair 1 / 1 #= 3 stopped / 3
+pair 1 / 1 #= 3 stopped / 3 stops
+pair 1 / 1 #= 3 stopped, 3 stopped
+pair 1 / 1 #= 3 stopped / 3 stopped / 3 stopped
+pair 1 / 1 #= 11 stopped / 3 stopped
+pair #= 3 stopped / 3 stopped
+pair 1 #= 3 stopped / 3 stopped
+pair 1 1 #= 3 stopped / 3 stopped
+pair 1 / #= 3 stopped / 3 stopped
+pair / 1 #= 3 stopped / 3 stopped
+pair 1 / 1 / #= 3 stopped / 3 stopped
+pair 1 / / 1 #= 3 stopped / 3 stopped
+pair 1 / 1 / 1 #= 3 stopped / 3 stopped
+pair 1/ 1 #= 3 stopped / 3 stopped
+pair 1 /1 #= 3 stopped / 3 stopped
+pair 1 // 1 #= 3 stopped / 3 stopped
+pair 1 ; / 1 #= 3 stopped / 3 stopped
+pair 1 /; 1 #= 3 stopped / 3 stopped
+pair 1 # / 1 #= 3 stopped / 3 stopped
+pair 1 unpaired / 1 #= 3 stopped / 3 stopped
+pair 1 / unpaired 1 #= 3 stopped / 3 stopped
+pair 1 / 1 unpaired #= 3 stopped / 3 stopped
+pair unpaired unpaired 1 / 1 #= 3 stopped / 3 stopped
+pair unpaired / 1 #= 3 stopped / 3 stopped
+pair paired 1 / 1 #= 3 stopped / 3 stopped
+pair 1 stop stop / 1 #= 3 stopped / 3 stopped
+pair 1 +1 XYZ 270115 C / 1 #= 3 stopped / 3 stopped
+pair 1 +1 / 270115 C 20 / 1 #= 4 stopped / 3 stopped
+pair 1 +1 A / B 270115C00020000 / 1 #= 4 stopped / 3 stopped
+pair 1 +1 XYZ 270115 C 20; / 1 #= 3 stopped / 3 stopped
 quote XYZ 270115 C 20 1 2
 quote XYZ 270115 C 20 1 #= 0
 quote XYZ 270115 C 20 1 2 stop #= 0
@@ -416,5 +504,41 @@ quote XYZ 270115 C 20 1 2 #= 20 cancelled";
         quote.resting = 1;
         assert_eq!(quotes[0].case, quote);
         assert_eq!((quotes[0].answer.number, quotes[0].answer.cancel), (20, 1));
+    }
+
+    #[test]
+    fn pairs_are_read() {
+        let cases = read(
+            "set phase=2\n\
+            pair 1 / -0.5 stop #= 3 stopped / 8 stopped\n\
+            pair unpaired 2 +1 A/B   270115C00020000 opening\t/ \
+                -2 -1 // 270115 C 20; +1 A 270115 P 20 market manual #= 0 passes / 24 stopped",
+        );
+        let pairs = cases.unwrap_or_else(|trouble| panic!("{trouble}")).pairs;
+        let order = |legs: &[RawLeg], price| {
+            let mut order = Arrival::limit(legs, price);
+            order.market[market::PHASE] = market::HALT;
+            order
+        };
+        let [mut agency, mut contra] = [order(&[], 1_000), order(&[], -500)];
+        contra.stop = 1;
+        assert_eq!(pairs[0].case, Pair::of(&agency, &contra, 0));
+        let answer = |number, contra_number, agency_passes| PairAnswer {
+            number,
+            contra_number,
+            agency_passes,
+            contra_passes: 0,
+        };
+        assert_eq!(pairs[0].answer, answer(3, 8, 0));
+        let strokes = (*b"//    270115C00020000", -1);
+        agency = order(&[(*b"A/B   270115C00020000", 1)], 2_000);
+        contra = order(&[strokes, (*b"A     270115P00020000", 1)], -2_000);
+        (agency.opening, contra.kind, contra.manual) = (1, 1, 1);
+        assert_eq!(pairs[1].case, Pair::of(&agency, &contra, 1));
+        assert_eq!(pairs[1].answer, answer(0, 24, 1));
+        assert_eq!(
+            (&pairs[0].place[..], &pairs[1].place[..]),
+            ("file:2", "file:3")
+        );
     }
 }

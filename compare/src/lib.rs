@@ -4,8 +4,8 @@
 //! `unit` is the library. `numbers` has every number with its kind, `slices` the names of settings
 //! and market. The second implementation is `osi` for symbols, `order`, with `pairing`, `shape`,
 //! `class` and `checks` below it, for orders, `fix` for messages, `tally` for tallied ones of both,
-//! and `quote_check` for quotes. `cases` reads those of the repository's files, `generate` and
-//! `limits` make others up, and `run` puts them to both and counts.
+//! `pair` for auction pairs, and `quote_check` for quotes. `cases` reads those of the repository's
+//! files, `generate` and `limits` make others up, and `run` puts them to both and counts.
 #![deny(unsafe_code)]
 
 pub mod arrival;
@@ -21,6 +21,7 @@ pub mod message;
 pub mod numbers;
 pub mod order;
 pub mod osi;
+pub mod pair;
 pub mod pairing;
 pub mod quote;
 pub mod quote_check;

@@ -1,5 +1,5 @@
-//! What the tests of orders, of messages and of quotes share: values that are cut short easily,
-//! every choice of faults and of values, and slices of every length.
+//! What the tests of orders, of messages, of pairs and of quotes share: values that are cut short
+//! easily, every choice of faults and of values, and slices of every length.
 
 use crate::{
     numbers::{ACCEPTED, BAD_MARKET, BAD_SETTING},

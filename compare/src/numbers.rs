@@ -4,7 +4,7 @@
 use Kind::{Accepted, Refused, Rejected};
 use Of::{Message, Order, Quote, Symbol, Tally};
 
-#[derive(Clone, Copy, Debug, PartialEq, Eq)]
+#[derive(Clone, Copy, Debug, PartialEq, Eq, PartialOrd, Ord)]
 pub enum Kind {
     Accepted,
     Refused,
@@ -12,7 +12,8 @@ pub enum Kind {
 }
 
 /// Of a symbol it is said by the reader or the writer. Of a tallied order or message all is said
-/// that is said of one without a tally, and more of its tally.
+/// that is said of one without a tally, and more of its tally. Of either order of a pair the same is
+/// said as of an order.
 #[derive(Clone, Copy, Debug, PartialEq, Eq)]
 pub enum Of {
     Symbol,

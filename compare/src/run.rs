@@ -22,6 +22,9 @@ pub struct Seen {
     pub classes: Counts,
     pub shapes: Counts,
     pub pairings: Counts,
+    /// Of pairs `numbers` has the agency orders'. How many orders of a pair pass tells which do.
+    pub contra_numbers: Counts,
+    pub passing: Counts,
     pub cancels: Counts,
     /// Wrong lengths alone.
     pub settings: Counts,
@@ -116,6 +119,8 @@ to run it again, in compare/:
             ("class", &self.seen.classes),
             ("shape", &self.seen.shapes),
             ("pairings", &self.seen.pairings),
+            ("contra", &self.seen.contra_numbers),
+            ("passing", &self.seen.passing),
             ("cancel", &self.seen.cancels),
         ] {
             for (value, times) in counts {
@@ -154,6 +159,17 @@ to run it again, in compare/:
         let seen = &self.seen;
         self.given_each("number", &seen.numbers, numbers::of(Of::Quote), least);
         self.given_each("cancel", &seen.cancels, 0..=1, least);
+        self.lent_each(least / 10);
+    }
+
+    /// The same for pairs: each of some numbers, of either order, and both orders passing, one of
+    /// them, or none.
+    pub fn require_of_pairs(&self, numbers: &[u64], least: u64) {
+        let seen = &self.seen;
+        for (whose, counts) in [("number", &seen.numbers), ("contra", &seen.contra_numbers)] {
+            self.given_each(whose, counts, numbers.iter().copied(), least);
+        }
+        self.given_each("passing", &seen.passing, 0..=2, least);
         self.lent_each(least / 10);
     }
 

@@ -3,6 +3,7 @@
 use crate::{
     arrival::{Answer, Arrival},
     message::Message,
+    pair::{Pair, PairAnswer},
     quote::{Quote, QuoteAnswer},
     tally::{Tallied, TalliedAnswer},
     Parts, Read, Written,
@@ -203,6 +204,49 @@ pub fn check_fix(message: &Message) -> Answer {
 pub fn check_fix_tallied(tallied: &Tallied<Message>) -> TalliedAnswer {
     // SAFETY: as for the tallied order check.
     unsafe { call_tallied!(call_fix, opc_check_fix_tallied, tallied) }
+}
+
+pub fn check_pair(pair: &Pair) -> PairAnswer {
+    let (agency, contra) = (&pair.agency, &pair.contra);
+    let mut answer = PairAnswer {
+        number: UNSET,
+        contra_number: UNSET,
+        agency_passes: UNSET,
+        contra_passes: UNSET,
+    };
+    // SAFETY: as for the order check.
+    answer.number = unsafe {
+        call!(
+            opc_check_pair, pair,
+            [
+                agency_symbols: *const u8 = agency.symbols.as_ptr(),
+                agency_symbols_len: usize = agency.symbols.len(),
+                agency_counts: *const u8 = agency.counts.as_ptr(),
+                agency_counts_len: usize = agency.counts.len(),
+                agency_price: i64 = agency.price,
+                agency_kind: u64 = agency.kind,
+                agency_stop: u64 = agency.stop,
+                agency_manual: u64 = agency.manual,
+                agency_opening: u64 = agency.opening,
+                contra_symbols: *const u8 = contra.symbols.as_ptr(),
+                contra_symbols_len: usize = contra.symbols.len(),
+                contra_counts: *const u8 = contra.counts.as_ptr(),
+                contra_counts_len: usize = contra.counts.len(),
+                contra_price: i64 = contra.price,
+                contra_kind: u64 = contra.kind,
+                contra_stop: u64 = contra.stop,
+                contra_manual: u64 = contra.manual,
+                contra_opening: u64 = contra.opening,
+                continue_unpaired: u64 = pair.continue_unpaired,
+            ],
+            [
+                contra_number: answer.contra_number,
+                agency_passes: answer.agency_passes,
+                contra_passes: answer.contra_passes,
+            ]
+        )
+    };
+    answer
 }
 
 pub fn check_quote(quote: &Quote) -> QuoteAnswer {

@@ -9,6 +9,7 @@ use compare::{
     limits::{every, EXTREMES},
     numbers::{self, kind, Kind, Of, ACCEPTED, BAD_MARKET, BAD_SETTING, NOT_21_BYTES},
     order,
+    pair::Pair,
     quote::{Quote, QuoteAnswer},
     run::Run,
     slices::{market, setting},
@@ -56,6 +57,21 @@ fn both_hold_every_message() {
     let mut run = Run::new("messages of cases");
     hold(&mut run, &cases::all().messages, ["cases/messages.desk"; 2]);
     run.finish(&numbers_of(Of::Message), 150);
+}
+
+/// Each number of a pair, also at prices next to its own, is the one that the order gets alone.
+#[test]
+fn both_hold_every_pair() {
+    let mut run = Run::new("pairs of cases");
+    let pairs = cases::all().pairs;
+    hold(&mut run, &pairs, ["cases/pairs.desk", "cases/papers.desk"]);
+    run.require_of_pairs(&numbers_of(Of::Order), 1);
+    for pair in near(&pairs) {
+        let answer = run.compare(&pair);
+        let numbers = pair.orders().map(|order| order.library().number);
+        assert_eq!(numbers, [answer.number, answer.contra_number], "{pair}");
+    }
+    run.finish(&numbers_of(Of::Order), 17 * 300);
 }
 
 /// Whether a quote is resting changes the cancel flag alone, which is set where a check rejects.
@@ -112,13 +128,40 @@ fn sequence_and_scale_change_nothing() {
     run.finish(&numbers_of(Of::Order), 2_000);
 }
 
+/// A pair is the same where two legs of one of its orders are exchanged.
+#[test]
+fn exchanged_legs_change_nothing() {
+    let mut run = Run::new("exchanged legs");
+    for pair in cases::all().pairs {
+        for exchanged in with_legs_exchanged(&pair.case) {
+            run.expect(&exchanged, pair.answer, &pair.place);
+        }
+    }
+    run.finish(&[], 5_000);
+    run.require_of_pairs(&[0, 3, 4, 5, 6, 7, 22, 23, 24], 1);
+}
+
+/// The pair with every two legs of the agency order exchanged, then every two of the contra order.
+fn with_legs_exchanged(pair: &Pair) -> Vec<Pair> {
+    let mut pairs = Vec::new();
+    for side in 0..2 {
+        let legs = pair.orders()[side].legs();
+        for one in 0..legs.len() {
+            for other in 0..one {
+                let (mut orders, mut legs) = (pair.orders(), legs.clone());
+                legs.swap(one, other);
+                orders[side] = orders[side].with_legs(&legs);
+                pairs.push(Pair::of(&orders[0], &orders[1], pair.continue_unpaired));
+            }
+        }
+    }
+    pairs
+}
+
 /// What can be changed in a case.
 trait Varied: Case + Clone {
     /// The names of the numbers that are neither setting nor market value.
     const OWN: &'static [&'static str];
-
-    /// The settings and market values that decide nothing as long as they are within their limits.
-    const IDLE: &'static str;
 
     /// Its own numbers, then settings and market.
     fn numbers(&mut self) -> Vec<&mut u64>;
@@ -141,7 +184,6 @@ trait Varied: Case + Clone {
 
 impl Varied for Arrival {
     const OWN: &'static [&'static str] = &["KIND", "STOP", "MANUAL", "OPENING"];
-    const IDLE: &'static str = "CHECK_26 SET_TICKS";
 
     fn numbers(&mut self) -> Vec<&mut u64> {
         let flags = [&mut self.kind, &mut self.stop, &mut self.manual];
@@ -165,11 +207,41 @@ impl Varied for Arrival {
     }
 }
 
+impl Varied for Pair {
+    #[rustfmt::skip]
+    const OWN: &'static [&'static str] = &[
+        "AGENCY_KIND", "AGENCY_STOP", "AGENCY_MANUAL", "AGENCY_OPENING",
+        "CONTRA_KIND", "CONTRA_STOP", "CONTRA_MANUAL", "CONTRA_OPENING",
+        "CONTINUE_UNPAIRED",
+    ];
+
+    fn numbers(&mut self) -> Vec<&mut u64> {
+        let sides = [&mut self.agency, &mut self.contra].into_iter();
+        let flags = sides.flat_map(|side| {
+            let flags = [&mut side.kind, &mut side.stop, &mut side.manual];
+            flags.into_iter().chain([&mut side.opening])
+        });
+        let own = flags.chain([&mut self.continue_unpaired]);
+        let terms = self.settings.iter_mut().chain(&mut self.market);
+        own.chain(terms).collect()
+    }
+
+    fn at_near_prices(&self) -> Vec<Self> {
+        let [agency, contra] = self.orders().map(|order| order.at_near_prices());
+        let beside = |agency| {
+            let pair = move |contra| Pair::of(agency, contra, self.continue_unpaired);
+            contra.iter().map(pair)
+        };
+        agency.iter().flat_map(beside).collect()
+    }
+
+    fn number(answer: &Self::Answer) -> u64 {
+        answer.number
+    }
+}
+
 impl Varied for Quote {
     const OWN: &'static [&'static str] = &["BID", "OFFER", "RESTING"];
-    const IDLE: &'static str = "CHECK_22 CHECK_23 CHECK_24 CHECK_25 NET_INCREMENT \
-        ATD_BELOW_1000 ATD_TO_2999 ATD_TO_9999 ATD_FROM_10000 \
-        PERCENTAGE PRESET_MINIMUM PRESET_MAXIMUM EUROPEAN_INDEX PREVIOUS_CLOSE";
 
     fn numbers(&mut self) -> Vec<&mut u64> {
         let own = [&mut self.bid, &mut self.offer, &mut self.resting];
@@ -193,18 +265,18 @@ impl Varied for Quote {
 
 /// Whether a number is 0 for no, and anything else for yes.
 fn is_flag(name: &str) -> bool {
-    let others =
-        "KIND STOP MANUAL OPENING RESTING ADJUSTED EUROPEAN_INDEX OPEN_ELSEWHERE EXTENDED_HOURS";
-    name.starts_with("CHECK_") || others.split(' ').any(|flag| flag == name)
+    let others = "KIND STOP MANUAL OPENING RESTING CONTINUE_UNPAIRED \
+        ADJUSTED EUROPEAN_INDEX OPEN_ELSEWHERE EXTENDED_HOURS";
+    name.starts_with("CHECK_") || others.split(' ').any(|flag| name.ends_with(flag))
 }
 
-/// Gives every number other values, at every price near that of the case. All values of a flag but 0
-/// are alike; and each number decides somewhere, except those that no rule of the check names.
-fn change_numbers<C: Varied>(run: &mut Run, cases: &[Expected<C>]) {
+/// Gives every number of each case other values. All values of a flag but 0 are alike. Tells which
+/// numbers decide nothing as long as settings and market are within their limits.
+fn change_numbers<C: Varied>(run: &mut Run, cases: impl Iterator<Item = C>) -> Vec<&'static str> {
     let values = [0, 1, 2, 3, 255, 256, 1 << 16, 1 << 31, (1 << 32) + 1];
     let refused = |answer: &C::Answer| [BAD_SETTING, BAD_MARKET].contains(&C::number(answer));
     let mut deciding = BTreeSet::new();
-    for mut case in cases.iter().flat_map(|case| case.case.at_near_prices()) {
+    for mut case in cases {
         let before = run.compare(&case);
         for (place, name) in C::names().into_iter().enumerate() {
             let value = *case.numbers()[place];
@@ -225,20 +297,44 @@ fn change_numbers<C: Varied>(run: &mut Run, cases: &[Expected<C>]) {
     }
     let mut idle = C::names();
     idle.retain(|name| !deciding.contains(name));
-    assert_eq!(idle.join(" "), C::IDLE);
+    idle
 }
 
+/// Every case, and the same at prices next to its own.
+fn near<C: Varied>(cases: &[Expected<C>]) -> impl Iterator<Item = C> + '_ {
+    cases.iter().flat_map(|case| case.case.at_near_prices())
+}
+
+/// Each number decides somewhere, except those that no rule of the check names.
 #[test]
 fn numbers_of_orders_changed() {
     let mut run = Run::new("orders changed");
-    change_numbers(&mut run, &cases::all().orders);
+    let idle = change_numbers(&mut run, near(&cases::all().orders));
+    assert_eq!(idle, ["CHECK_26", "SET_TICKS"]);
     run.finish(&numbers_of(Of::Order), 500_000);
 }
 
+/// The flags of both orders decide somewhere, and so does the mark; settings and market values do
+/// in orders.
+#[test]
+fn numbers_of_pairs_changed() {
+    let mut run = Run::new("pairs changed");
+    let pairs = cases::all().pairs.into_iter();
+    let idle = change_numbers(&mut run, pairs.map(|pair| pair.case));
+    let decides = |name| !idle.contains(name);
+    assert!(Pair::OWN.iter().all(decides), "{idle:?}");
+    run.finish(&numbers_of(Of::Order), 150_000);
+}
+
+/// As for orders.
 #[test]
 fn numbers_of_quotes_changed() {
+    const IDLE: &str = "CHECK_22 CHECK_23 CHECK_24 CHECK_25 NET_INCREMENT \
+        ATD_BELOW_1000 ATD_TO_2999 ATD_TO_9999 ATD_FROM_10000 \
+        PERCENTAGE PRESET_MINIMUM PRESET_MAXIMUM EUROPEAN_INDEX PREVIOUS_CLOSE";
     let mut run = Run::new("quotes changed");
-    change_numbers(&mut run, &cases::all().quotes);
+    let idle = change_numbers(&mut run, near(&cases::all().quotes));
+    assert_eq!(idle.join(" "), IDLE);
     run.finish(&numbers_of(Of::Quote), 500_000);
 }
 
@@ -294,11 +390,15 @@ fn every_case_under_all_terms() {
     let cases = cases::all();
     let of_orders = cases.orders.iter().map(|order| &order.case);
     let of_orders = of_orders.map(|case| (&case.settings, &case.market));
+    let of_pairs = cases.pairs.iter().map(|pair| &pair.case);
+    let of_pairs = of_pairs.map(|case| (&case.settings, &case.market));
     let of_quotes = cases.quotes.iter().map(|quote| &quote.case);
     let of_quotes = of_quotes.map(|case| (&case.settings, &case.market));
-    for (settings, market) in of_orders.chain(of_quotes).collect::<BTreeSet<_>>() {
+    let all = of_orders.chain(of_pairs).chain(of_quotes);
+    for (settings, market) in all.collect::<BTreeSet<_>>() {
         let terms = [&settings[..], market].concat();
         put_under(&mut run, &cases.orders, &terms);
+        put_under(&mut run, &cases.pairs, &terms);
         put_under(&mut run, &cases.quotes, &terms);
     }
     run.finish(&[0, 9, 10, 20, 21, 22, 23, 24, 25, 26], 100 * 500);

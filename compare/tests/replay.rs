@@ -8,6 +8,7 @@ use compare::{
     cases, generate,
     message::{Message, MESSAGE},
     order,
+    pair::{Pair, PAIR},
     quote::{Quote, QUOTE},
     random::Random,
     run::{Run, CASE_VARIABLE},
@@ -23,6 +24,7 @@ fn replay() {
     let mut words = line.split_whitespace();
     match (words.next(), words.next()) {
         (Some(QUOTE), _) => again::<Quote>(&line),
+        (Some(PAIR), _) => again::<Pair>(&line),
         (Some(MESSAGE), _) => again::<Message>(&line),
         (Some(TALLIED), Some(MESSAGE)) => again::<Tallied<Message>>(&line),
         (Some(TALLIED), _) => again::<Tallied>(&line),
@@ -47,8 +49,12 @@ fn again<C: Case + FromStr<Err = String>>(line: &str) {
 }
 
 fn lines_read_back() {
-    for order in cases::all().orders {
+    let cases = cases::all();
+    for order in &cases.orders {
         reads_back(&order.case);
+    }
+    for pair in &cases.pairs {
+        reads_back(&pair.case);
     }
     reads_back(&Arrival {
         price: i64::MIN,
@@ -67,6 +73,7 @@ fn lines_read_back() {
             arrival: message,
             tally,
         });
+        reads_back(&generate::pair(&mut random));
         reads_back(&generate::quote(&mut random));
     }
 }

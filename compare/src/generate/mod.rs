@@ -1,16 +1,18 @@
-//! Arrivals, messages and quotes made up at random, so biased that the rules meet: legs that form
-//! the known shapes or nearly do, prices at the limits that checks draw, settings and markets at
-//! their own limits, and damage of every kind.
+//! Arrivals, messages, pairs and quotes made up at random, so biased that the rules meet: legs that
+//! form the known shapes or nearly do, prices at the limits that checks draw, settings and markets
+//! at their own limits, and damage of every kind.
 
 mod damage;
 mod legs;
 pub mod messages;
+mod pairs;
 mod quotes;
 mod values;
 
 pub use damage::damage;
 pub use legs::{draft, list_of};
 pub use messages::message;
+pub use pairs::{pair, reversed};
 pub use quotes::quote;
 pub use values::{market, settings};
 
@@ -43,35 +45,45 @@ fn side(random: &mut Random) -> i64 {
 
 /// A whole arrival, mostly without damage.
 pub fn arrival(random: &mut Random) -> Arrival {
-    let number = random.index(64);
-    let draft = match number {
+    let draft = any_draft(random);
+    let settings = settings(random);
+    let market = market(random, &draft);
+    let mut arrival = order(random, &draft, &settings, &market);
+    while random.index(6) == 0 {
+        damage(random, &mut arrival);
+    }
+    arrival
+}
+
+/// Legs, now and then none or too many.
+fn any_draft(random: &mut Random) -> Draft {
+    match random.index(64) {
         0 => Draft::new(),
         1 | 2 => {
             let legs = 14 + random.index(7); // around 16, the most
             list_of(random, legs)
         }
         _ => draft(random, 16),
-    };
-    let settings = settings(random);
-    let market = market(random, &draft);
+    }
+}
+
+/// An order of some legs, its price at the limits that checks draw under settings and market.
+fn order(random: &mut Random, draft: &Draft, settings: &[u64], market: &[u64]) -> Arrival {
     let mut arrival = Arrival {
-        price: price(random, &draft, &settings, &market),
+        price: price(random, draft, settings, market),
         kind: u64::from(random.index(4) == 0),
         stop: u64::from(random.index(8) == 0),
         manual: u64::from(random.index(8) == 0),
         opening: u64::from(random.index(4) == 0),
-        settings,
-        market,
-        ..Arrival::limit(&legs_of(&draft), 0)
+        settings: settings.to_vec(),
+        market: market.to_vec(),
+        ..Arrival::limit(&legs_of(draft), 0)
     };
     if random.index(32) == 0 {
         arrival.kind *= random.number();
         arrival.stop *= random.number();
         arrival.manual *= random.number();
         arrival.opening *= random.number();
-    }
-    while random.index(6) == 0 {
-        damage(random, &mut arrival);
     }
     arrival
 }

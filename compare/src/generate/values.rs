@@ -8,7 +8,7 @@ use crate::{
 };
 
 /// Yes more seldom than no, and any number that means yes.
-fn flag(random: &mut Random, one_in: usize) -> u64 {
+pub fn flag(random: &mut Random, one_in: usize) -> u64 {
     match random.index(one_in) {
         0 => *random.pick(&[1, 1, 1, 2, 1 << 32, u64::MAX]),
         _ => 0,

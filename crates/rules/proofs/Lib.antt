@@ -12,4 +12,4 @@ pub mod Pairs
 pub mod Demand1
 pub mod Demand2
 pub mod Tallying
-pub mod Pairing
+pub mod Passing

@@ -15,4 +15,4 @@ use Rattle.rules.specs.Pairs.{Pairs}
 
 pub pairs : Pairs
 unfolding all any somePair every lex insert sort value numeral areDigits distance areSpaces isRootTail isRoot leapDay daysIn dayExists inLimits symbolOf partsOf isSymbol word rawLeg rawLegs priceOf legOf legsOf gcdWithin gcd commonDivisor units isSimple pairOf matched reach walk byStrike byExpiry bothWalks isDebit isVertical isButterfly isBox shapeOf hasOwnClass allOf pairClass classWith putTest callTest simpleBuy sizes isBelow sameSideBelow buyBuy debitCredit maximumOf allowance maximumValue isUnusable elsewhereReference reference acceptableTicks tickAt limitDistance isTooFar tickDistance settingsOf marketOf settingsHold marketHolds firstOf isBadPrice refusal rejection judged outcome checkLegs checkSlices paired checkPair
-pairs = record { passing = refl; numbers = refl; terms = refl; own = refl }
+pairs = record { passing = refl; numbers = refl; terms = refl; own = refl; paper = refl }

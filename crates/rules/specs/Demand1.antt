@@ -87,14 +87,12 @@ messageNumbers = 0 ∷ (named (messageRefusals []) ++ legNumbers)
 abbrev pub MessageCheck : Type 0
 MessageCheck = (a : MessageInputs) (m : List ℕ) → OrderAnswers messageNumbers (checkFix a m)
 
--- the check on a pair (document 02, S-2), which has no number of its own: both orders' numbers stay, "a refusal's too", and all else is zero where the agency order is refused
+-- the check on a pair (document 02, S-2), which has no number of its own: both orders' numbers stay, "a refusal's too"; a refused order does not pass, and with a refused agency order neither does
 pub record PairAnswers (r : PairAnswer) : Type 0 where
   pub agency : List·Memᴰ (r .agency .number) orderNumbers
   pub contra : List·Memᴰ (r .contra .number) orderNumbers
   pub agencyRefused : isRefused (r .agency .number) ≡ true → (r .agency .passes ≡ 0) × (r .contra .passes ≡ 0)
   pub contraRefused : isRefused (r .contra .number) ≡ true → r .contra .passes ≡ 0
-  -- each side passes or not
-  pub marks : List·Memᴰ (r .agency .passes) (0 ∷ 1 ∷ []) × List·Memᴰ (r .contra .passes) (0 ∷ 1 ∷ [])
 
 abbrev pub PairCheck : Type 0
 PairCheck = (st : Settings) (m : Market) (unpaired : ℕ) (agency contra : PairOrder) → PairAnswers (checkPair st m unpaired agency contra)

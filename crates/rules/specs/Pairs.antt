@@ -6,7 +6,7 @@ use Rattle.rules.specs.declared.Market.{Market}
 use Rattle.rules.specs.declared.PairAnswer.{PairAnswer}
 use Rattle.rules.specs.Order.{Lent, symbolsOf, countsOf}
 use Rattle.rules.specs.Market.{settingsOf, marketOf}
-use Rattle.rules.specs.Examples.{exampleSettings, exampleMarket, calls, puts}
+use Rattle.rules.specs.Examples.{exampleSettings, exampleMarket, lent, calls, puts}
 use Rattle.rules.specs.Edges.{Hold}
 use Rattle.rules.specs.Pair.{PairOrder, paired, checkPair}
 
@@ -33,7 +33,7 @@ bought price = limit price (calls (pos 1) 20 ∷ calls (minus 1) 30 ∷ [])
 abbrev sold : ℤ → PairOrder
 sold price = limit price (calls (minus 1) 20 ∷ calls (pos 1) 30 ∷ [])
 
--- refused ones: no leg; a count of one byte, which is no count
+-- refused ones: 3, no leg; 1, a count of one byte
 abbrev empty : PairOrder
 empty = limit (pos 5000) []
 
@@ -44,26 +44,34 @@ broken = record { symbols = []; counts = 1 ∷ []; price = pos 5000; kind = 0; s
 abbrev plain : ℕ → PairOrder → PairOrder → PairAnswer
 plain unpaired agency contra = checkPair (exampleSettings 0) exampleMarket unpaired agency contra
 
--- where the NBO is 1,200, without the mark; a call bought above 1,250 then gets 25, if it has neither stop nor manual flag
+-- the NBO is 1,200: a call bought above 1,250 gets 25, if it has neither stop nor manual flag
 abbrev near : Market
 near = marketOf (1 ∷ 0 ∷ 0 ∷ 0 ∷ 0 ∷ 1200 ∷ 0 ∷ 0 ∷ 0 ∷ [])
 
+-- in this market, without the mark
 abbrev offered : PairOrder → PairOrder → PairAnswer
 offered agency contra = checkPair (exampleSettings 0) near 0 agency contra
 
 abbrev call : ℕ → ℕ → ℕ → PairOrder
 call price stop manual = ordered (calls (pos 1) 20 ∷ []) (pos price) 0 stop manual 0
 
--- a put bought at its strike by a market order: 20, but in the opening process
+-- a put bought at its strike by a market order: 20, in the opening process 0
 abbrev put : ℕ → PairOrder
 put opening = ordered (puts (pos 1) 18 ∷ []) (pos 18000) 1 0 0 opening
 
--- a debit received: 23, but of a market order
+-- a debit received: 23, of a market order 0
 abbrev received : ℕ → PairOrder
 received kind = ordered (calls (pos 1) 20 ∷ calls (minus 1) 30 ∷ []) (minus 5000) kind 0 0 0
 
+-- the pair of source document 004, calls of March: the agency order sells at the market, the contra order buys at a limit of 0
+abbrev selling : PairOrder
+selling = ordered (lent (minus 1) 67 3 19 45 ∷ lent (minus 1) 67 3 19 50 ∷ []) (pos 0) 1 0 0 0
+
+abbrev buying : PairOrder
+buying = limit (pos 0) (lent (pos 1) 67 3 19 45 ∷ lent (pos 1) 67 3 19 50 ∷ [])
+
 pub record Pairs : Type 0 where
-  -- "If both get 0, both pass, else neither"; of a marked pair the agency order passes where it alone gets 0. Any value but 0 is the mark; a refused order fails as a rejected one does.
+  -- "If both get 0, both pass, else neither"; of a marked pair the agency order passes too where it alone gets 0. Any value but 0 is the mark; a refused order fails as a rejected one does.
   pub passing : Hold (
       (paired 0 0 0, answer 0 1 0 1)
       ∷ (paired 1 0 0, answer 0 1 0 1)
@@ -77,6 +85,9 @@ pub record Pairs : Type 0 where
       ∷ (paired 0 9 0, answer 9 0 0 0)
       ∷ (paired 1 9 0, answer 9 0 0 0)
       ∷ (paired 0 23 9, answer 23 0 9 0)
+      ∷ (paired 0 9 23, answer 9 0 23 0)
+      ∷ (paired 0 23 23, answer 23 0 23 0)
+      ∷ (paired 0 9 9, answer 9 0 9 0)
       ∷ (paired 1 23 9, answer 23 0 9 0)
       ∷ (paired 1 9 23, answer 9 0 23 0)
       ∷ (paired 1 23 23, answer 23 0 23 0)
@@ -93,18 +104,21 @@ pub record Pairs : Type 0 where
       ∷ (plain 1 (bought (pos 5000)) empty, answer 0 1 3 0)
       ∷ (plain 1 empty (sold (minus 5000)), answer 3 0 0 0)
       ∷ (plain 1 broken empty, answer 1 0 3 0)
+      ∷ (plain 1 (bought (pos 5000)) broken, answer 0 1 1 0)
       ∷ [])
   -- "with the same settings and market": each is seen in the numbers of both orders
   pub terms : Hold (
       (offered (call 1250 0 0) (call 1251 0 0), answer 0 0 25 0)
       ∷ (offered (call 1251 0 0) (call 1250 0 0), answer 25 0 0 0)
-      ∷ (checkPair (exampleSettings 0) exampleMarket 0 (call 1251 0 0) (call 1251 0 0), answer 0 1 0 1)
+      ∷ (plain 0 (call 1251 0 0) (call 1251 0 0), answer 0 1 0 1)
       ∷ (checkPair (settingsOf []) exampleMarket 1 (call 1250 0 0) (call 1250 0 0), answer 9 0 9 0)
       ∷ (checkPair (exampleSettings 0) (marketOf []) 1 (call 1250 0 0) (call 1250 0 0), answer 10 0 10 0)
       ∷ [])
-  -- price, kind and flags are each order's own
+  -- legs, price, kind and flags are each order's own
   pub own : Hold (
-      (offered (call 1251 1 0) (call 1251 0 0), answer 0 0 25 0)
+      (offered (call 1250 0 0) (put 0), answer 0 0 20 0)
+      ∷ (offered (put 0) (call 1250 0 0), answer 20 0 0 0)
+      ∷ (offered (call 1251 1 0) (call 1251 0 0), answer 0 0 25 0)
       ∷ (offered (call 1251 0 0) (call 1251 1 0), answer 25 0 0 0)
       ∷ (offered (call 1251 0 1) (call 1251 0 0), answer 0 0 25 0)
       ∷ (offered (call 1251 0 0) (call 1251 0 1), answer 25 0 0 0)
@@ -113,3 +127,5 @@ pub record Pairs : Type 0 where
       ∷ (offered (received 1) (received 0), answer 0 0 23 0)
       ∷ (offered (received 0) (received 1), answer 23 0 0 0)
       ∷ [])
+  -- 004: "the AIM auction will not initiate because the contra-side order does not satisfy the price check parameter"; marked, the agency order goes on
+  pub paper : Hold ((plain 0 selling buying, answer 0 0 22 0) ∷ (plain 1 selling buying, answer 0 1 22 0) ∷ [])

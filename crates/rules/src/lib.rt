@@ -1,4 +1,4 @@
-// The types of document 01. What they mean is in specs/.
+// The types of documents 01 and 02. What they mean is in specs/.
 
 // A price, a strike or another amount of money, in thousandths of a dollar.
 pub struct Mills(pub u64);

@@ -13,6 +13,7 @@ use compare::{
     fix,
     message::Message,
     order, osi,
+    pair::{self, Pair, PairAnswer},
     quote::{Quote, QuoteAnswer},
     quote_check,
     tally::{self, Tallied, Tally},
@@ -42,6 +43,14 @@ pub struct Fix {
     stop: u64,
     manual: u64,
     opening: u64,
+}
+
+/// struct opc_pair.
+#[repr(C)]
+pub struct PairOf {
+    agency: Order,
+    contra: Order,
+    continue_unpaired: u64,
 }
 
 /// struct opc_quote.
@@ -93,6 +102,11 @@ unsafe fn message(fix: &Fix, terms: &Terms) -> Message {
         settings: lent(terms.settings, terms.settings_len),
         market: lent(terms.market, terms.market_len),
     }
+}
+
+unsafe fn pair(pair: &PairOf, terms: &Terms) -> Pair {
+    let [agency, contra] = [&pair.agency, &pair.contra].map(|order| arrival(order, terms));
+    Pair::of(&agency, &contra, pair.continue_unpaired)
 }
 
 unsafe fn quote(quote: &QuoteOf, terms: &Terms) -> Quote {
@@ -172,6 +186,11 @@ pub unsafe extern "C" fn second_check_fix_tallied(
 }
 
 #[no_mangle]
+pub unsafe extern "C" fn second_check_pair(pair_of: &PairOf, terms: &Terms) -> PairAnswer {
+    pair::check(&pair(pair_of, terms))
+}
+
+#[no_mangle]
 pub unsafe extern "C" fn second_check_quote(quote_of: &QuoteOf, terms: &Terms) -> QuoteAnswer {
     quote_check::check(&quote(quote_of, terms))
 }
@@ -198,6 +217,11 @@ pub unsafe extern "C" fn second_print_fix(fix: &Fix, terms: &Terms, tally: Optio
         Some(&tally) => print(&Tallied { arrival, tally }),
         None => print(&arrival),
     }
+}
+
+#[no_mangle]
+pub unsafe extern "C" fn second_print_pair(pair_of: &PairOf, terms: &Terms) {
+    print(&pair(pair_of, terms));
 }
 
 #[no_mangle]

@@ -4,8 +4,9 @@
 use compare::{
     arrival::Arrival,
     cases,
-    generate::{self, legs_of, list_of},
+    generate::{self, legs_of, list_of, reversed},
     osi,
+    pair::{Pair, Side},
     quote::Quote,
     random::{seed, Random},
     Parts,
@@ -16,9 +17,10 @@ use std::{ffi::CStr, fs, path::Path};
 const RAW_CASES: usize = 100;
 const SHAPED_ROUNDS: usize = 400;
 
-/// As many bytes as the shaped form takes for most calls; a message takes more than its order.
+/// As many bytes as the shaped form takes for most calls; a message takes more than its order, and so
+/// does a pair.
 const SHAPED_BYTES: usize = 120;
-const SHAPED_MESSAGE_BYTES: usize = 180;
+const SHAPED_LONG_BYTES: usize = 180;
 
 /// The second byte of an input: 0 is the raw form. The third chooses how the call is made.
 const SHAPED: u8 = 1;
@@ -31,6 +33,7 @@ const TALLIED: u8 = 5;
 const QUOTE: u8 = 6;
 const FIX: u8 = 8;
 const FIX_TALLIED: u8 = 11;
+const PAIR: u8 = 12;
 
 /// Writes one file for each seed.
 ///
@@ -53,6 +56,11 @@ fn all() -> Vec<Vec<u8>> {
         seeds.push(order(&expected.case));
         seeds.push(tallied(&expected.case, [999_999, 0, 999_999, 0]));
         seeds.push(message(&expected.case));
+        let contra = reversed(&expected.case);
+        seeds.push(pair(&Pair::of(&expected.case, &contra, 1)));
+    }
+    for expected in &cases.pairs {
+        seeds.push(pair(&expected.case));
     }
     for expected in &cases.quotes {
         seeds.push(quote(&expected.case));
@@ -65,6 +73,7 @@ fn all() -> Vec<Vec<u8>> {
         seeds.push(tallied(&generate::arrival(&mut random), tally));
         seeds.push(message(&generate::arrival(&mut random)));
         seeds.push(tallied_message(&generate::arrival(&mut random), tally));
+        seeds.push(pair(&generate::pair(&mut random)));
         seeds.push(quote(&generate::quote(&mut random)));
         let symbol = legs_of(&list_of(&mut random, 1))[0].0;
         seeds.push(read(&symbol));
@@ -75,8 +84,8 @@ fn all() -> Vec<Vec<u8>> {
             let bytes = random.bytes(SHAPED_BYTES);
             seeds.push([&[entry, SHAPED], &bytes[..]].concat());
         }
-        for entry in [FIX, FIX, FIX_TALLIED] {
-            let bytes = random.bytes(SHAPED_MESSAGE_BYTES);
+        for entry in [FIX, FIX, FIX_TALLIED, PAIR, PAIR] {
+            let bytes = random.bytes(SHAPED_LONG_BYTES);
             seeds.push([&[entry, SHAPED], &bytes[..]].concat());
         }
     }
@@ -94,19 +103,18 @@ fn slices(seed: &mut Vec<u8>, settings: &[u64], market: &[u64]) {
     }
 }
 
-fn terms(seed: &mut Vec<u8>, arrival: &Arrival) {
-    numbers(seed, &[arrival.stop, arrival.manual, arrival.opening]);
-    slices(seed, &arrival.settings, &arrival.market);
+fn one_order(seed: &mut Vec<u8>, order: &Side) {
+    seed.extend((order.symbols.len() as u16).to_le_bytes());
+    seed.push(order.counts.len() as u8);
+    seed.extend([&order.symbols[..], &order.counts].concat());
+    seed.extend(order.price.to_le_bytes());
+    numbers(seed, &[order.kind, order.stop, order.manual, order.opening]);
 }
 
 fn order(arrival: &Arrival) -> Vec<u8> {
-    let [symbols, counts] = [&arrival.symbols, &arrival.counts].map(Vec::as_slice);
-    let [low, high] = (symbols.len() as u16).to_le_bytes();
-    let mut seed = vec![ORDER, 0, 0, low, high, counts.len() as u8];
-    seed.extend([symbols, counts].concat());
-    seed.extend(arrival.price.to_le_bytes());
-    numbers(&mut seed, &[arrival.kind]);
-    terms(&mut seed, arrival);
+    let mut seed = vec![ORDER, 0, 0];
+    one_order(&mut seed, &Side::of(arrival));
+    slices(&mut seed, &arrival.settings, &arrival.market);
     seed
 }
 
@@ -141,7 +149,8 @@ fn message(arrival: &Arrival) -> Vec<u8> {
     let [low, high] = (body.len() as u16).to_le_bytes();
     let mut seed = vec![FIX, 0, 0, 1, low, high];
     seed.extend(body);
-    terms(&mut seed, arrival);
+    numbers(&mut seed, &[arrival.stop, arrival.manual, arrival.opening]);
+    slices(&mut seed, &arrival.settings, &arrival.market);
     seed
 }
 
@@ -149,6 +158,15 @@ fn tallied_message(arrival: &Arrival, tally: [u64; 4]) -> Vec<u8> {
     let mut seed = message(arrival);
     seed[0] = FIX_TALLIED;
     numbers(&mut seed, &tally);
+    seed
+}
+
+fn pair(pair: &Pair) -> Vec<u8> {
+    let mut seed = vec![PAIR, 0, 0];
+    one_order(&mut seed, &pair.agency);
+    one_order(&mut seed, &pair.contra);
+    numbers(&mut seed, &[pair.continue_unpaired]);
+    slices(&mut seed, &pair.settings, &pair.market);
     seed
 }
 

@@ -18,16 +18,16 @@ use Rattle.rules.proofs.Demand1.{order-check}
 abbrev agencyTest : Bool → Bool → Bool → Bool
 agencyTest u a c = a && c || (u && (a && not c))
 
-abbrev mark : Bool → ℕ
-mark b = cond b 1 0
+abbrev flag : Bool → ℕ
+flag b = cond b 1 0
 
-is-set : (b : Bool) → mark b ≡ 1 → b ≡ true
+is-set : (b : Bool) → flag b ≡ 1 → b ≡ true
 is-set true h = refl
 is-set false h = absurd (omega arith)
 
-is-mark : (b : Bool) → List·Memᴰ (mark b) (0 ∷ 1 ∷ [])
-is-mark true = List·Memᴰ·tail (List·Memᴰ·head refl)
-is-mark false = List·Memᴰ·head refl
+is-flag : (b : Bool) → List·Memᴰ (flag b) (0 ∷ 1 ∷ [])
+is-flag true = List·Memᴰ·tail (List·Memᴰ·head refl)
+is-flag false = List·Memᴰ·head refl
 
 needs-agency : (u a c : Bool) → agencyTest u a c ≡ true → a ≡ true
 needs-agency u true c h = refl
@@ -64,27 +64,28 @@ passing unpaired agency contra =
     let a = eqb agency 0 in
     let c = eqb contra 0 in
     record {
+      flags = (is-flag (agencyTest u a c), is-flag (a && c));
       agencyAccepted = λ h. eqb-true agency 0 (needs-agency u a c (is-set _ h));
       contraAccepted = λ h. eqb-true contra 0 (and-both a c (is-set _ h) .1);
-      neverAlone = λ h. ap mark (with-contra u a c (is-set _ h));
-      together = λ h. ap (λ (b : Bool). mark (agencyTest b a c)) h ∙ ap mark (unmarked a c);
-      bothAccepted = λ g h. let e = eq-eqb agency 0 g in let f = eq-eqb contra 0 h in (ap mark (accepted u a c e f), ap mark (both-hold a c e f));
-      unpairedAccepted = λ g h. ap mark (marked u a c g (eq-eqb agency 0 h));
+      neverAlone = λ h. ap flag (with-contra u a c (is-set _ h));
+      together = λ h. ap (λ (b : Bool). flag (agencyTest b a c)) h ∙ ap flag (unmarked a c);
+      bothAccepted = λ g h. let e = eq-eqb agency 0 g in let f = eq-eqb contra 0 h in (ap flag (accepted u a c e f), ap flag (both-hold a c e f));
+      unpairedAccepted = λ g h. ap flag (marked u a c g (eq-eqb agency 0 h));
     }
 
 pub pair-theorem : PairTheorem
-unfolding checkPair
-pair-theorem st m unpaired agency contra = passing unpaired (ownNumber st m agency) (ownNumber st m contra)
+unfolding paired checkPair
+pair-theorem = record { passing = λ st m unpaired agency contra. passing unpaired (ownNumber st m agency) (ownNumber st m contra); own = λ st m unpaired agency contra. (refl, refl) }
 
 refused-fails : (a r : Bool) → not (a || r) ≡ true → a ≡ false
 refused-fails true r h = absurd (true≢false (sym h))
 refused-fails false r h = refl
 
-agency-stops : (u c : Bool) → mark (agencyTest u false c) ≡ 0
+agency-stops : (u c : Bool) → flag (agencyTest u false c) ≡ 0
 agency-stops true c = refl
 agency-stops false c = refl
 
-contra-stops : (a : Bool) → mark (a && false) ≡ 0
+contra-stops : (a : Bool) → flag (a && false) ≡ 0
 contra-stops true = refl
 contra-stops false = refl
 
@@ -100,9 +101,8 @@ pair-answers unpaired agency contra g h =
     record {
       agency = g;
       contra = h;
-      agencyRefused = λ e. let f = refused-fails a (isRejected agency) e in (ap (λ (b : Bool). mark (agencyTest u b c)) f ∙ agency-stops u c, ap (λ (b : Bool). mark (b && c)) f);
-      contraRefused = λ e. ap (λ (b : Bool). mark (a && b)) (refused-fails c (isRejected contra) e) ∙ contra-stops a;
-      marks = (is-mark (agencyTest u a c), is-mark (a && c));
+      agencyRefused = λ e. let f = refused-fails a (isRejected agency) e in (ap (λ (b : Bool). flag (agencyTest u b c)) f ∙ agency-stops u c, ap (λ (b : Bool). flag (b && c)) f);
+      contraRefused = λ e. ap (λ (b : Bool). flag (a && b)) (refused-fails c (isRejected contra) e) ∙ contra-stops a;
     }
 
 pub pair-check : PairCheck

@@ -23,7 +23,7 @@ ofLegs o xs = holding o (symbolsOf xs) (countsOf xs)
 pub data Rearranged : PairOrder → PairOrder → Type 0 where
   -- any number of whole legs, damaged ones too
   legs : (o : PairOrder) (xs ys : List Lent) → All IsWhole xs → Perm xs ys → Rearranged (ofLegs o xs) (ofLegs o ys)
-  -- slices that do not divide into legs have no other sequence of legs: all of one length count as such
+  -- slices that do not divide into legs have no other sequence of legs: any others of the same two lengths are taken for a second arrival
   broken : (o : PairOrder) (s t c d : List ℕ) → length s ≡ length t → length c ≡ length d → areWhole s c ≡ false → Rearranged (holding o s c) (holding o t d)
 
 pub record PairDemand3 : Type 0 where

@@ -8,22 +8,19 @@ use Rattle.rules.specs.declared.Market.{Market}
 use Rattle.rules.specs.declared.OrderAnswer.{OrderAnswer}
 use Rattle.rules.specs.Lists.{All, Perm, keep, swap, then}
 use Rattle.rules.specs.Order.{Lent, symbolsOf, countsOf}
-use Rattle.rules.specs.Numbers.{areWhole, Inputs}
-use Rattle.rules.specs.Pair.{PairOrder, ownNumber, paired, checkPair}
+use Rattle.rules.specs.Numbers.{areWhole}
+use Rattle.rules.specs.Pair.{PairOrder, inputsFor, ownNumber, paired, checkPair}
 use Rattle.laws.proofs.Sorting.{perm-refl, perm-sym}
 use Rattle.demand3.specs.Demand3.{IsWhole}
 use Rattle.demand3.proofs.Demand3.{demand3}
-use Rattle.pair_theorems.specs.Pairs.{ofLegs, Rearranged, legs, broken, PairDemand3}
-
-abbrev inputs : Settings → Market → PairOrder → Inputs
-inputs st m o = record { settings = st; market = m; price = o .price; kind = o .kind; stop = o .stop; manual = o .manual; opening = o .opening }
+use Rattle.pair_theorems.specs.PairDemand3.{ofLegs, Rearranged, legs, broken, PairDemand3}
 
 abbrev number : OrderAnswer → ℕ
 number r = r .number
 
 own : (st : Settings) (m : Market) {o p : PairOrder} → Rearranged o p → ownNumber st m o ≡ ownNumber st m p
-own st m (legs o xs ys w q) = ap number (demand3 .whole (inputs st m o) xs ys w q .same)
-own st m (broken o s t c d e f h) = ap number (demand3 .broken (inputs st m o) s t c d e f h)
+own st m (legs o xs ys w q) = ap number (demand3 .whole (inputsFor st m o) xs ys w q .same)
+own st m (broken o s t c d e f h) = ap number (demand3 .broken (inputsFor st m o) s t c d e f h)
 
 same : (st : Settings) (m : Market) (unpaired : ℕ) (agency agency′ contra contra′ : PairOrder) → Rearranged agency agency′ → Rearranged contra contra′
     → checkPair st m unpaired agency contra ≡ checkPair st m unpaired agency′ contra′
