@@ -85,7 +85,7 @@ static void count_order(const struct call *call, const struct opc_answer *answer
 }
 
 static void count_pair(const struct call *call, const struct opc_pair_answer *answer) {
-    count_answer(call, answer->number);
+    count_answer(call, answer->agency_number);
     if (answer->contra_number < NUMBERS) {
         contra_numbers[answer->contra_number]++;
     }
@@ -656,7 +656,7 @@ static void try_tallied(const struct call *call) {
 static struct opc_pair_answer pair_directly(const struct call *call, bool last) {
     struct lent_numbers lent = lend_numbers(unset[last]);
     struct opc_pair_answer answer;
-    answer.number = opc_check_pair(PAIR_OF(call, last), ANSWER_IN(&lent));
+    answer.agency_number = opc_check_pair(PAIR_OF(call, last), ANSWER_IN(&lent));
     answer.contra_number = *lent_number(&lent, 0);
     answer.agency_passes = *lent_number(&lent, 1);
     answer.contra_passes = *lent_number(&lent, 2);
@@ -734,8 +734,8 @@ static void ask_exchanged(const struct call *call, const struct opc_pair_answer 
     exchanged.order = call->contra;
     exchanged.contra = call->order;
     struct opc_pair_answer other = ask_pair(&exchanged);
-    uint64_t given[] = {other.number, other.contra_number};
-    uint64_t expected[] = {answer->contra_number, answer->number};
+    uint64_t given[] = {other.agency_number, other.contra_number};
+    uint64_t expected[] = {answer->contra_number, answer->agency_number};
     expect_equal(&exchanged, "the numbers of orders exchanged", given, expected, sizeof given);
 }
 
@@ -744,8 +744,8 @@ static void ask_marked_otherwise(const struct call *call, const struct opc_pair_
     struct call marked = *call;
     marked.continue_unpaired = call->continue_unpaired == 0;
     struct opc_pair_answer other = ask_pair(&marked);
-    uint64_t given[] = {other.number, other.contra_number};
-    uint64_t expected[] = {answer->number, answer->contra_number};
+    uint64_t given[] = {other.agency_number, other.contra_number};
+    uint64_t expected[] = {answer->agency_number, answer->contra_number};
     expect_equal(&marked, "the numbers with another mark", given, expected, sizeof given);
 }
 
@@ -755,7 +755,7 @@ static void try_pair(const struct call *call) {
     expect_equal(call, "the answer to the pair again", &answer, &first, sizeof answer);
     answer = pair_inlined(call);
     expect_equal(call, "the answer through structs", &answer, &first, sizeof answer);
-    expect_alone(call, &call->order, first.number);
+    expect_alone(call, &call->order, first.agency_number);
     expect_alone(call, &call->contra, first.contra_number);
     expect_in_sequences(call, &first);
     ask_exchanged(call, &first);

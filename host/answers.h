@@ -84,7 +84,7 @@ static inline bool same_answer(const struct opc_answer *a, const struct opc_answ
 
 static inline bool same_pair_answer(const struct opc_pair_answer *a,
                                     const struct opc_pair_answer *b) {
-    return a->number == b->number && a->contra_number == b->contra_number &&
+    return a->agency_number == b->agency_number && a->contra_number == b->contra_number &&
            a->agency_passes == b->agency_passes && a->contra_passes == b->contra_passes;
 }
 

@@ -366,7 +366,7 @@ static void answer_pair(struct desk *desk, const struct opc_pair *pair) {
     desk->pairs.agency_alone += agency && !contra;
     desk->pairs.neither += !agency && !contra;
     printf("%" PRIu64 ": pair: ", desk->line_number);
-    print_side(desk, "agency order", &pair->agency, answer.number, answer.agency_passes);
+    print_side(desk, "agency order", &pair->agency, answer.agency_number, answer.agency_passes);
     printf("; ");
     print_side(desk, "contra order", &pair->contra, answer.contra_number, answer.contra_passes);
     printf("\n");

@@ -9,7 +9,7 @@
 
 static inline void expect_pair_words(const struct opc_pair_answer *a, const char *words) {
     char text[128];
-    snprintf(text, sizeof text, "%" PRIu64 " %s / %" PRIu64 " %s", a->number,
+    snprintf(text, sizeof text, "%" PRIu64 " %s / %" PRIu64 " %s", a->agency_number,
              passes_name(a->agency_passes), a->contra_number, passes_name(a->contra_passes));
     expect(strcmp(text, words) == 0, "another answer than the case has");
 }

@@ -123,8 +123,8 @@ static uint64_t number_of_pair(const struct made_order *m) {
     const struct made_pair p = pair_of(m, &contra, 0);
     struct opc_pair pair = lend_pair(&p);
     struct opc_pair_answer a = opc_answer_pair(&pair, &m->settings, &m->market);
-    expect(is_valid(a.number) && is_valid(a.contra_number), "pair", legs_of(m));
-    return a.number != OPC_ACCEPTED ? a.number : a.contra_number;
+    expect(is_valid(a.agency_number) && is_valid(a.contra_number), "pair", legs_of(m));
+    return a.agency_number != OPC_ACCEPTED ? a.agency_number : a.contra_number;
 }
 
 /* Calls the check for an order, and gives the number. */

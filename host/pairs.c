@@ -91,7 +91,7 @@ static void print_side(const char *name, const struct side *s, uint64_t number, 
 static void show(const struct example *e) {
     struct opc_pair_answer a = answer_to(e);
     printf("%-21s  %-6s", e->about, e->continue_unpaired == 0 ? "no" : "yes");
-    print_side("agency", e->agency, a.number, a.agency_passes);
+    print_side("agency", e->agency, a.agency_number, a.agency_passes);
     printf("%-21s  %-6s", "", "");
     print_side("contra", e->contra, a.contra_number, a.contra_passes);
 }

@@ -74,9 +74,9 @@ static void call_check_fix_tallied(void) {
 }
 
 static void call_check_pair(void) {
-    pair_answer.number = opc_check_pair(EACH_OF_PAIR(&made_pair), SLICES_OF(&made_pair.agency),
-                                        &pair_answer.contra_number, &pair_answer.agency_passes,
-                                        &pair_answer.contra_passes);
+    pair_answer.agency_number = opc_check_pair(
+        EACH_OF_PAIR(&made_pair), SLICES_OF(&made_pair.agency), &pair_answer.contra_number,
+        &pair_answer.agency_passes, &pair_answer.contra_passes);
 }
 
 static void call_check_quote(void) {

@@ -140,7 +140,7 @@ uint64_t opc_check_pair(const uint8_t *agency_symbols, size_t agency_symbols_len
     *contra_number = told.pair.contra_number;
     *agency_passes = told.pair.agency_passes;
     *contra_passes = told.pair.contra_passes;
-    return told.pair.number;
+    return told.pair.agency_number;
 }
 
 uint64_t opc_check_quote(const uint8_t *symbol, size_t symbol_len, uint64_t bid, uint64_t offer,

@@ -160,7 +160,7 @@ static struct opc_pair_answer answer_to_pair(void) {
     return opc_answer_pair(&pair, &p.agency.settings, &p.agency.market);
 }
 
-static uint64_t number_of_agency(void) { return answer_to_pair().number; }
+static uint64_t number_of_agency(void) { return answer_to_pair().agency_number; }
 
 static uint64_t number_of_contra(void) { return answer_to_pair().contra_number; }
 

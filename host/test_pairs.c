@@ -91,8 +91,8 @@ static bool order_is_kept(const struct lent_order *lent) {
 static struct opc_pair_answer raw_answer(const struct opc_pair *p, const struct lent_terms *t,
                                          uint64_t garbage) {
     struct opc_pair_answer a = {garbage, garbage, garbage, garbage};
-    a.number = opc_check_pair(EACH_OF_PAIR(p), EACH_OF_TERMS(t), &a.contra_number, &a.agency_passes,
-                              &a.contra_passes);
+    a.agency_number = opc_check_pair(EACH_OF_PAIR(p), EACH_OF_TERMS(t), &a.contra_number,
+                                     &a.agency_passes, &a.contra_passes);
     return a;
 }
 
@@ -136,7 +136,7 @@ static struct opc_pair_answer answer(const struct made_pair *made) {
 static void expect_numbers(const struct opc_pair_answer *a, uint64_t number, uint64_t contra_number,
                            const char *what) {
     struct passes passes = passes_of(number, contra_number, now.continue_unpaired);
-    expect(a->number == number, what);
+    expect(a->agency_number == number, what);
     expect(a->contra_number == contra_number, what);
     expect(a->agency_passes == passes.agency, "whether the agency order passes");
     expect(a->contra_passes == passes.contra, "whether the contra order passes");

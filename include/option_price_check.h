@@ -577,10 +577,14 @@ struct opc_pair {
     uint64_t continue_unpaired; /* the agency order may pass though its contra order fails */
 };
 
-/* The answer to a pair: each order's own number, and 1 where that order passes, else 0. */
+/*
+ * The answer to a pair: each order's own number, as in enum opc_number, and 1 where that order
+ * passes, else 0. An order may go on where it passes: that its number is OPC_ACCEPTED is not
+ * enough.
+ */
 struct opc_pair_answer {
-    uint64_t number;        /* of the agency order, as in enum opc_number */
-    uint64_t contra_number; /* of the contra order, likewise */
+    uint64_t agency_number;
+    uint64_t contra_number;
     uint64_t agency_passes;
     uint64_t contra_passes;
 };
@@ -619,7 +623,7 @@ static inline struct opc_pair_answer opc_answer_pair(const struct opc_pair *pair
     const struct opc_order *agency = &pair->agency;
     const struct opc_order *contra = &pair->contra;
     struct opc_pair_answer answer;
-    answer.number = opc_check_pair(
+    answer.agency_number = opc_check_pair(
         agency->symbols, agency->symbols_len, agency->counts, agency->counts_len, agency->price,
         agency->kind, agency->stop, agency->manual, agency->opening, contra->symbols,
         contra->symbols_len, contra->counts, contra->counts_len, contra->price, contra->kind,

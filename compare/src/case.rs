@@ -178,7 +178,7 @@ impl Case for Pair {
 
     fn count(&self, answer: &PairAnswer, seen: &mut Seen) {
         seen.count_lengths(&self.settings, &self.market);
-        *seen.numbers.entry(answer.number).or_default() += 1;
+        *seen.numbers.entry(answer.agency_number).or_default() += 1;
         *seen.contra_numbers.entry(answer.contra_number).or_default() += 1;
         let passing = answer.agency_passes + answer.contra_passes;
         *seen.passing.entry(passing).or_default() += 1;

@@ -363,9 +363,10 @@ fn pair_answer(text: &str) -> Option<PairAnswer> {
         Some((number_of(Of::Order, number)?, place(&PASSES, word)?))
     };
     let (agency, contra) = text.split_once(" / ")?;
-    let [(number, agency_passes), (contra_number, contra_passes)] = [side(agency)?, side(contra)?];
+    let (agency_number, agency_passes) = side(agency)?;
+    let (contra_number, contra_passes) = side(contra)?;
     Some(PairAnswer {
-        number,
+        agency_number,
         contra_number,
         agency_passes,
         contra_passes,
@@ -523,8 +524,8 @@ quote XYZ 270115 C 20 1 2 #= 20 cancelled";
         let [mut agency, mut contra] = [order(&[], 1_000), order(&[], -500)];
         contra.stop = 1;
         assert_eq!(pairs[0].case, Pair::of(&agency, &contra, 0));
-        let answer = |number, contra_number, agency_passes| PairAnswer {
-            number,
+        let answer = |agency_number, contra_number, agency_passes| PairAnswer {
+            agency_number,
             contra_number,
             agency_passes,
             contra_passes: 0,

@@ -46,7 +46,7 @@ pub struct Pair {
 #[repr(C)]
 #[derive(Clone, Copy, Debug, PartialEq, Eq)]
 pub struct PairAnswer {
-    pub number: u64,
+    pub agency_number: u64,
     pub contra_number: u64,
     pub agency_passes: u64,
     pub contra_passes: u64,
@@ -69,7 +69,7 @@ pub fn answer(numbers: [u64; 2], continue_unpaired: u64) -> PairAnswer {
         passes[side] = 1;
     }
     PairAnswer {
-        number: numbers[AGENCY],
+        agency_number: numbers[AGENCY],
         contra_number: numbers[CONTRA],
         agency_passes: passes[AGENCY],
         contra_passes: passes[CONTRA],

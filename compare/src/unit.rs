@@ -209,13 +209,13 @@ pub fn check_fix_tallied(tallied: &Tallied<Message>) -> TalliedAnswer {
 pub fn check_pair(pair: &Pair) -> PairAnswer {
     let (agency, contra) = (&pair.agency, &pair.contra);
     let mut answer = PairAnswer {
-        number: UNSET,
+        agency_number: UNSET,
         contra_number: UNSET,
         agency_passes: UNSET,
         contra_passes: UNSET,
     };
     // SAFETY: as for the order check.
-    answer.number = unsafe {
+    answer.agency_number = unsafe {
         call!(
             opc_check_pair, pair,
             [

@@ -69,7 +69,11 @@ fn both_hold_every_pair() {
     for pair in near(&pairs) {
         let answer = run.compare(&pair);
         let numbers = pair.orders().map(|order| order.library().number);
-        assert_eq!(numbers, [answer.number, answer.contra_number], "{pair}");
+        assert_eq!(
+            numbers,
+            [answer.agency_number, answer.contra_number],
+            "{pair}"
+        );
     }
     run.finish(&numbers_of(Of::Order), 17 * 300);
 }
@@ -236,7 +240,7 @@ impl Varied for Pair {
     }
 
     fn number(answer: &Self::Answer) -> u64 {
-        answer.number
+        answer.agency_number
     }
 }
 

@@ -39,12 +39,16 @@ const OUTCOMES: [([bool; 3], [u64; 2]); 8] = [
 ];
 
 /// The answer to a pair whose orders get some numbers alone.
-fn answer([number, contra_number]: [u64; 2], mark: u64) -> PairAnswer {
-    let asked = [number == ACCEPTED, contra_number == ACCEPTED, mark != 0];
+fn answer([agency_number, contra_number]: [u64; 2], mark: u64) -> PairAnswer {
+    let asked = [
+        agency_number == ACCEPTED,
+        contra_number == ACCEPTED,
+        mark != 0,
+    ];
     let outcome = OUTCOMES.iter().find(|(when, _)| *when == asked);
     let (_, [agency_passes, contra_passes]) = *outcome.expect("every case is there");
     PairAnswer {
-        number,
+        agency_number,
         contra_number,
         agency_passes,
         contra_passes,

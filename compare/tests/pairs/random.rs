@@ -60,7 +60,7 @@ fn hold(run: &mut Run, pair: &Pair) -> PairAnswer {
 }
 
 fn way(pair: &Pair, answer: &PairAnswer) -> Way {
-    let [agency, contra] = [answer.number, answer.contra_number].map(kind);
+    let [agency, contra] = [answer.agency_number, answer.contra_number].map(kind);
     (pair.continue_unpaired != 0, agency, contra)
 }
 

@@ -1,20 +1,15 @@
-// The frame of a message: its first three fields, its last, and the sum. Document 02, S-1.
-use amounts::wide;
+// The frame of a message: its first three fields, and its last. Document 02, S-1.
 use choice::both;
 use choice::either;
-use digits::byte_of;
 use field_reader::field_at;
 use fields::Field;
-use values::is_number;
-use values::number_said;
+use number_values::is_number;
+use number_values::number_said;
 ghost use mathlib.Core.Path.{_≡_};
 ghost use mathlib.Core.Bool.{_&&_};
-ghost use Prim.Native.Nat.{_%_, _≤_, _<_};
 ghost use lib.Dec.{eqb};
-ghost use lib.ListN.{length, take};
+ghost use lib.ListN.{length};
 ghost use Rattle.rules.specs.Lists.{sameNumbers};
-ghost use Rattle.rules.specs.Numerals.{numeral};
-ghost use Rattle.rules.specs.Fix.{total};
 ghost use Rattle.fields.specs.Fields.{Inside, valueIn};
 ghost use Rattle.frame.specs.Frame.{headFrom, headOf, tailStep};
 
@@ -42,20 +37,6 @@ pub struct Tail {
     pub end: usize,
 }
 
-// The sum modulo 256 of the bytes before the place `to`.
-pub fn sum_before(message: &[u8], to: usize) -> u64
-    requires { ⌜ to ≤ length (now message) ⌝ }
-    ensures { λ r. ⌜ (r ≡ total (take to (now (message .entry))) % 256) × (r < 256) ⌝ }
-{
-    let mut sum: u64 = 0;
-    let mut i = 0;
-    while i < to {
-        sum = (sum + wide(message[i])) % 256;
-        i += 1;
-    }
-    sum
-}
-
 // Whether a value is the text.
 fn is_text(v: &[u8], text: &[u8]) -> bool
     ensures { λ r. ⌜ r ≡ sameNumbers (now (v .entry)) (now (text .entry)) ⌝ }
@@ -72,21 +53,6 @@ fn is_text(v: &[u8], text: &[u8]) -> bool
         i += 1;
     }
     true
-}
-
-// Whether a value is the sum in three digits.
-pub fn is_sum(v: &[u8], sum: u64) -> bool
-    requires { ⌜ sum < 256 ⌝ }
-    ensures { λ r. ⌜ r ≡ sameNumbers (now (v .entry)) (numeral 10 48 3 sum) ⌝ }
-{
-    if v.len() != 3 {
-        return false;
-    }
-    let rest = sum % 100;
-    both(
-        v[0] == byte_of(sum / 100),
-        both(v[1] == byte_of(rest / 10), v[2] == byte_of(rest % 10)),
-    )
 }
 
 // Whether a field has this tag and this text.

@@ -2,11 +2,11 @@
 use field_reader::field_at;
 use fields::Field;
 use leg_bytes::bytes_of;
+use number_values::is_one;
+use number_values::number_of;
 use rules::Order;
 use rules::RawLeg;
 use rules::Terms;
-use values::is_one;
-use values::number_of;
 ghost use mathlib.Core.Path.{_≡_};
 ghost use Prim.Native.Nat.{_≤_};
 ghost use Rattle.rules.specs.Order.{Recorded};

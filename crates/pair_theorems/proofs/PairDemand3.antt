@@ -1,17 +1,13 @@
 -- Both orders' own numbers are demand 3's, and the answer to a pair is of these numbers alone.
 use mathlib.Core.Path.{_≡_, refl, ap, ap₂}
-use mathlib.Core.List.{List, [], _∷_, _++_}
 use mathlib.Core.Bool.{Bool, true, false}
 use Prim.Native.Nat.{ℕ}
 use Rattle.rules.specs.declared.Settings.{Settings}
 use Rattle.rules.specs.declared.Market.{Market}
 use Rattle.rules.specs.declared.OrderAnswer.{OrderAnswer}
-use Rattle.rules.specs.Lists.{All, Perm, keep, swap, then}
-use Rattle.rules.specs.Order.{Lent, symbolsOf, countsOf}
 use Rattle.rules.specs.Numbers.{areWhole}
 use Rattle.rules.specs.Pair.{PairOrder, inputsFor, ownNumber, paired, checkPair}
-use Rattle.laws.proofs.Sorting.{perm-refl, perm-sym}
-use Rattle.demand3.specs.Demand3.{IsWhole}
+use Rattle.laws.proofs.Sorting.{perm-refl, exchange}
 use Rattle.demand3.proofs.Demand3.{demand3}
 use Rattle.pair_theorems.specs.PairDemand3.{ofLegs, Rearranged, legs, broken, PairDemand3}
 
@@ -37,16 +33,6 @@ itself o = go (areWhole (o .symbols) (o .counts)) refl
         let r : Rearranged (ofLegs o xs) (ofLegs o xs) = legs o xs xs (k .1) (perm-refl xs) in
         rw (k .2, k .3) at r
     go false e = broken o (o .symbols) (o .symbols) (o .counts) (o .counts) refl refl e
-
--- in front of all that stands before it
-to-front : (front : List Lent) (x : Lent) (back : List Lent) → Perm (front ++ (x ∷ back)) (x ∷ (front ++ back))
-to-front [] x back = perm-refl (x ∷ back)
-to-front (z ∷ front) x back = then (keep z (to-front front x back)) (swap z x (front ++ back))
-
--- behind x come the middle and y: y goes to the front, and x to y's place
-exchange : (front middle back : List Lent) (x y : Lent) → Perm (front ++ (x ∷ (middle ++ (y ∷ back)))) (front ++ (y ∷ (middle ++ (x ∷ back))))
-exchange [] middle back x y = then (keep x (to-front middle y back)) (then (swap x y (middle ++ back)) (keep y (perm-sym (to-front middle x back))))
-exchange (z ∷ front) middle back x y = keep z (exchange front middle back x y)
 
 pub pair-demand3 : PairDemand3
 pair-demand3 = record { same = same; itself = itself; exchanged = λ o front middle back x y w. legs o _ _ w (exchange front middle back x y) }

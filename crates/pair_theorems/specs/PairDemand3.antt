@@ -1,4 +1,4 @@
--- Demand 3, of both orders of a pair. Document 02, S-2: "Exchanging two legs inside either order must leave the pair's outcome as it was."
+-- What demand 3 says of the sequence of legs, of both orders of a pair. Document 02, S-2: "Exchanging two legs inside either order must leave the pair's outcome as it was."
 use mathlib.Core.Path.{_≡_}
 use mathlib.Core.List.{List, _∷_, _++_}
 use mathlib.Core.Bool.{false}

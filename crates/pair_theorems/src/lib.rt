@@ -1,1 +1,1 @@
-// What is promised of auction pairs: demand 3, of both orders. No code.
+// What demand 3 says of the sequence of legs, of both orders of an auction pair. No code.

@@ -1,4 +1,4 @@
--- Which orders of a pair pass, by three tests: the mark `u`, and whether the agency order's number and the contra order's are 0, `a` and `c`.
+-- What is promised of the answer to a pair, demand 1's part too. Which orders pass is by three tests: the mark `u`, and whether the agency order's number and the contra order's are 0, `a` and `c`.
 use mathlib.Core.Path.{_≡_, refl, sym, ap, _∙_}
 use mathlib.Core.Bool.{Bool, true, false, cond, not, _&&_, _||_, true≢false}
 use mathlib.Core.List.{[], _∷_, List·Memᴰ, List·Memᴰ·head, List·Memᴰ·tail}
@@ -12,7 +12,7 @@ use Rattle.rules.specs.Order.{isYes, termsOf}
 use Rattle.rules.specs.Pair.{PairOrder, ownNumber, paired, checkPair, Passing, PairTheorem}
 use Rattle.rules.specs.Kinds.{isRejected}
 use Rattle.rules.specs.Demand1.{orderNumbers, PairAnswers, PairCheck}
-use Rattle.rules.proofs.Tests.{and-both}
+use Rattle.rules.proofs.Tests.{and-both, and-of, and-no, or-neither, not-eq}
 use Rattle.rules.proofs.Demand1.{order-check}
 
 abbrev agencyTest : Bool → Bool → Bool → Bool
@@ -50,12 +50,8 @@ marked true true false g h = refl
 marked true false c g h = absurd (true≢false (sym h))
 marked false a c g h = absurd (true≢false (sym g))
 
-both-hold : (a c : Bool) → a ≡ true → c ≡ true → a && c ≡ true
-both-hold true c g h = h
-both-hold false c g h = g
-
 accepted : (u a c : Bool) → a ≡ true → c ≡ true → agencyTest u a c ≡ true
-accepted u a c g h = with-contra u a c (both-hold a c g h)
+accepted u a c g h = with-contra u a c (and-of g h)
 
 passing : (unpaired agency contra : ℕ) → Passing unpaired (paired unpaired agency contra)
 unfolding paired
@@ -69,7 +65,7 @@ passing unpaired agency contra =
       contraAccepted = λ h. eqb-true contra 0 (and-both a c (is-set _ h) .1);
       neverAlone = λ h. ap flag (with-contra u a c (is-set _ h));
       together = λ h. ap (λ (b : Bool). flag (agencyTest b a c)) h ∙ ap flag (unmarked a c);
-      bothAccepted = λ g h. let e = eq-eqb agency 0 g in let f = eq-eqb contra 0 h in (ap flag (accepted u a c e f), ap flag (both-hold a c e f));
+      bothAccepted = λ g h. let e = eq-eqb agency 0 g in let f = eq-eqb contra 0 h in (ap flag (accepted u a c e f), ap flag (and-of e f));
       unpairedAccepted = λ g h. ap flag (marked u a c g (eq-eqb agency 0 h));
     }
 
@@ -77,17 +73,9 @@ pub pair-theorem : PairTheorem
 unfolding paired checkPair
 pair-theorem = record { passing = λ st m unpaired agency contra. passing unpaired (ownNumber st m agency) (ownNumber st m contra); own = λ st m unpaired agency contra. (refl, refl) }
 
-refused-fails : (a r : Bool) → not (a || r) ≡ true → a ≡ false
-refused-fails true r h = absurd (true≢false (sym h))
-refused-fails false r h = refl
-
 agency-stops : (u c : Bool) → flag (agencyTest u false c) ≡ 0
 agency-stops true c = refl
 agency-stops false c = refl
-
-contra-stops : (a : Bool) → flag (a && false) ≡ 0
-contra-stops true = refl
-contra-stops false = refl
 
 own-number : (st : Settings) (m : Market) (o : PairOrder) → List·Memᴰ (ownNumber st m o) orderNumbers
 own-number st m o = order-check .slices st m (termsOf (o .price) (o .kind) (o .stop) (o .manual) (o .opening)) (o .symbols) (o .counts) .number
@@ -101,8 +89,8 @@ pair-answers unpaired agency contra g h =
     record {
       agency = g;
       contra = h;
-      agencyRefused = λ e. let f = refused-fails a (isRejected agency) e in (ap (λ (b : Bool). flag (agencyTest u b c)) f ∙ agency-stops u c, ap (λ (b : Bool). flag (b && c)) f);
-      contraRefused = λ e. ap (λ (b : Bool). flag (a && b)) (refused-fails c (isRejected contra) e) ∙ contra-stops a;
+      agencyRefused = λ e. let f = or-neither a (isRejected agency) (not-eq _ e) .0 in (ap (λ (b : Bool). flag (agencyTest u b c)) f ∙ agency-stops u c, ap (λ (b : Bool). flag (b && c)) f);
+      contraRefused = λ e. ap (λ (b : Bool). flag (a && b)) (or-neither c (isRejected contra) (not-eq _ e) .0) ∙ ap flag (and-no a);
     }
 
 pub pair-check : PairCheck

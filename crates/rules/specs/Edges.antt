@@ -4,7 +4,7 @@ use mathlib.Core.List.{List, [], _∷_, _++_, reverse}
 use mathlib.Core.Bool.{Bool, true, false}
 use Prim.Native.Nat.{ℕ, suc, _+_, _-_}
 use lib.ListN.{take, drop}
-use lib.IntN.{ℤ, pos, negℤ}
+use lib.IntN.{ℤ, pos}
 use Rattle.rules.specs.declared.SymbolParts.{SymbolParts}
 use Rattle.rules.specs.declared.SymbolRead.{SymbolRead}
 use Rattle.rules.specs.declared.Price.{Price}
@@ -21,7 +21,7 @@ use Rattle.rules.specs.Market.{settingsOf, marketOf, settingsHold, marke
 use Rattle.rules.specs.Numbers.{checkOrder, checkSlices}
 use Rattle.rules.specs.Quote.{checkQuote}
 use Rattle.rules.specs.Tally.{isBadTally, counted, fresh}
-use Rattle.rules.specs.Examples.{exampleSettings, exampleMarket, bits, calls, puts}
+use Rattle.rules.specs.Examples.{exampleSettings, exampleMarket, bits, minus, calls, puts}
 
 -- the same list of what is given and of what is expected
 module _ {A : Type 0} where
@@ -35,9 +35,6 @@ module _ {A : Type 0} where
 
   abbrev pub Hold : List (A × A) → Type 0
   Hold es = given es ≡ expected es
-
-abbrev minus : ℕ → ℤ
-minus n = negℤ (pos n)
 
 abbrev limit : ℤ → Terms
 limit price = termsOf price 0 0 0 0

@@ -90,7 +90,7 @@ pub record Case : Type 0 where
   pub legs : List Lent
   pub expected : OrderAnswer
 
-abbrev minus : ℕ → ℤ
+abbrev pub minus : ℕ → ℤ
 minus n = negℤ (pos n)
 
 abbrev answers : ℕ → ℕ → ℕ → ℕ → OrderAnswer

@@ -1,17 +1,14 @@
 -- Document 02, S-2, by computing its definitions: each way that a pair can go, with the numbers of both orders.
 use mathlib.Core.List.{List, [], _∷_}
 use Prim.Native.Nat.{ℕ}
-use lib.IntN.{ℤ, pos, negℤ}
+use lib.IntN.{ℤ, pos}
 use Rattle.rules.specs.declared.Market.{Market}
 use Rattle.rules.specs.declared.PairAnswer.{PairAnswer}
 use Rattle.rules.specs.Order.{Lent, symbolsOf, countsOf}
 use Rattle.rules.specs.Market.{settingsOf, marketOf}
-use Rattle.rules.specs.Examples.{exampleSettings, exampleMarket, lent, calls, puts}
+use Rattle.rules.specs.Examples.{exampleSettings, exampleMarket, minus, lent, calls, puts}
 use Rattle.rules.specs.Edges.{Hold}
 use Rattle.rules.specs.Pair.{PairOrder, paired, checkPair}
-
-abbrev minus : ℕ → ℤ
-minus n = negℤ (pos n)
 
 -- each order's number, and whether it passes
 abbrev answer : ℕ → ℕ → ℕ → ℕ → PairAnswer
@@ -43,6 +40,10 @@ broken = record { symbols = []; counts = 1 ∷ []; price = pos 5000; kind = 0; s
 -- under the settings and the market of the examples
 abbrev plain : ℕ → PairOrder → PairOrder → PairAnswer
 plain unpaired agency contra = checkPair (exampleSettings 0) exampleMarket unpaired agency contra
+
+-- T8 paid: a credit, 23; of a European index undetermined, 0
+abbrev calendar : PairOrder
+calendar = limit (pos 1000) (lent (pos 1) 67 3 19 20 ∷ lent (minus 1) 67 6 18 20 ∷ [])
 
 -- the NBO is 1,200: a call bought above 1,250 gets 25, if it has neither stop nor manual flag
 abbrev near : Market
@@ -106,11 +107,13 @@ pub record Pairs : Type 0 where
       ∷ (plain 1 broken empty, answer 1 0 3 0)
       ∷ (plain 1 (bought (pos 5000)) broken, answer 0 1 1 0)
       ∷ [])
-  -- "with the same settings and market": each is seen in the numbers of both orders
+  -- "with the same settings and market": both orders get another number under other ones
   pub terms : Hold (
       (offered (call 1250 0 0) (call 1251 0 0), answer 0 0 25 0)
       ∷ (offered (call 1251 0 0) (call 1250 0 0), answer 25 0 0 0)
       ∷ (plain 0 (call 1251 0 0) (call 1251 0 0), answer 0 1 0 1)
+      ∷ (plain 0 calendar calendar, answer 23 0 23 0)
+      ∷ (checkPair (exampleSettings 1) exampleMarket 0 calendar calendar, answer 0 1 0 1)
       ∷ (checkPair (settingsOf []) exampleMarket 1 (call 1250 0 0) (call 1250 0 0), answer 9 0 9 0)
       ∷ (checkPair (exampleSettings 0) (marketOf []) 1 (call 1250 0 0) (call 1250 0 0), answer 10 0 10 0)
       ∷ [])

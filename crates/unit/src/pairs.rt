@@ -37,22 +37,22 @@ pub extern "C" fn opc_check_pair(
 {
     let set = settings_of(settings);
     let values = market_of(market);
-    let first = terms_of(
+    let agency_terms = terms_of(
         agency_price,
         agency_kind,
         agency_stop,
         agency_manual,
         agency_opening,
     );
-    let second = terms_of(
+    let contra_terms = terms_of(
         contra_price,
         contra_kind,
         contra_stop,
         contra_manual,
         contra_opening,
     );
-    let agency = check_slices(agency_symbols, agency_counts, first, set, values);
-    let contra = check_slices(contra_symbols, contra_counts, second, set, values);
+    let agency = check_slices(agency_symbols, agency_counts, agency_terms, set, values);
+    let contra = check_slices(contra_symbols, contra_counts, contra_terms, set, values);
     let answer = paired(continue_unpaired, agency.number, contra.number);
     *contra_number = answer.contra.number;
     *agency_passes = answer.agency.passes;

@@ -1,71 +1,26 @@
-// The values of a message's fields: their forms, and what they say. Document 02, S-1.
-use amounts::wide;
+// The forms of the values of a message's fields, and the price that one says. Document 02, S-1.
 use choice::both;
 use choice::either;
 use digits::are_digits;
+use number_values::is_byte;
+use number_values::is_number;
+use number_values::is_one;
+use number_values::number_of;
 use rules::Mills;
 use rules::Price;
 ghost use mathlib.Core.Path.{_≡_};
 ghost use mathlib.Core.Bool.{true};
-ghost use mathlib.Core.List.{[], _∷_};
 ghost use Prim.Native.Nat.{_-_, _*_, _^_, _≤_, _<_};
 ghost use lib.ListN.{length};
-ghost use Rattle.rules.specs.Lists.{sameNumbers};
 ghost use Rattle.rules.specs.Order.{priceOf};
-ghost use Rattle.rules.specs.Fix.{leadingDigits, one, isOneOrTwo, isNumber, numberOf, numberSaid};
+ghost use Rattle.rules.specs.Fix.{leadingDigits, isOneOrTwo, isNumber, numberOf};
 ghost use Rattle.rules.specs.Fix.{hasMinus, areDecimals, isAmount, isPrice, hasForm, millsOf};
 ghost use Rattle.rules.specs.Fix.{priceSaid};
-
-// Whether the value is this byte alone.
-fn is_byte(v: &[u8], b: u8) -> bool
-    ensures { λ r. ⌜ r ≡ sameNumbers (now (v .entry)) (b ∷ []) ⌝ }
-{
-    if v.len() != 1 {
-        return false;
-    }
-    v[0] == b
-}
-
-// Whether the value is the digit 1.
-pub fn is_one(v: &[u8]) -> bool
-    ensures { λ r. ⌜ r ≡ sameNumbers (now (v .entry)) one ⌝ }
-{
-    is_byte(v, 49)
-}
 
 fn is_one_or_two(v: &[u8]) -> bool
     ensures { λ r. ⌜ r ≡ isOneOrTwo (now (v .entry)) ⌝ }
 {
     either(is_one(v), is_byte(v, 50))
-}
-
-// Whether the value is a number: 1 to 15 digits.
-pub fn is_number(v: &[u8]) -> bool
-    ensures { λ r. ⌜ r ≡ isNumber (now (v .entry)) ⌝ }
-{
-    let n = v.len();
-    both(both(1 <= n, n <= 15), are_digits(v, 0, n))
-}
-
-// The number that a value says.
-pub fn number_of(v: &[u8]) -> u64
-    requires { ⌜ isNumber (now v) ≡ true ⌝ }
-    ensures { λ r. ⌜ (r ≡ numberOf (now (v .entry))) × (r < 1000000000000000) ⌝ }
-{
-    let mut n: u64 = 0;
-    let mut i = 0;
-    while i < v.len() {
-        n = n * 10 + wide(v[i]) - 48;
-        i += 1;
-    }
-    n
-}
-
-// The number of groups that the value of 555 says: none where it is no number.
-pub fn number_said(v: &[u8]) -> u64
-    ensures { λ r. ⌜ (r ≡ numberSaid (now (v .entry))) × (r < 1000000000000000) ⌝ }
-{
-    if is_number(v) { number_of(v) } else { 0 }
 }
 
 // How many digits stand at the front.

@@ -5,7 +5,8 @@ use mathlib.Core.Path.{_≡_, refl, _∙_}
 use Prim.Native.Nat.{_-_}
 use lib.ListN.{length, drop}
 use Rattle.rules.specs.Lists.{sameNumbers}
-use Rattle.frame.proofs.Laws.{other-length, text-differs, text-turn, text-end}
+use Rattle.rules.proofs.Slices.{other-length}
+use Rattle.frame.proofs.Laws.{text-differs, text-turn, text-end}
 use Rattle.frame.proofs.is_text.Statement.{statement}
 use Rattle.frame.proofs.is_text.Tie as tie
 

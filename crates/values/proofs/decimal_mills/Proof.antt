@@ -3,7 +3,8 @@ use borrow.Author.Needs.{needs}
 use mathlib.Core.Path.{_≡_}
 use native.Mathlib.Omega.{arith}
 use lib.ListN.{length}
-use Rattle.values.proofs.Laws.{number-parts, scaled}
+use Rattle.number_values.proofs.Laws.{number-parts}
+use Rattle.values.proofs.Laws.{scaled}
 use Rattle.values.proofs.decimal_mills.Statement.{statement}
 use Rattle.values.proofs.decimal_mills.Tie as tie
 

@@ -6,7 +6,8 @@ use native.Mathlib.Omega.{arith}
 use lib.ListN.{length}
 use lib.Seq.{length-take-le}
 use Rattle.rules.specs.Fix.{leadingDigits, millsOf}
-use Rattle.values.proofs.Laws.{number-of-parts, rest-of, amount-parts, behind-point, no-point}
+use Rattle.number_values.proofs.Laws.{number-of-parts}
+use Rattle.values.proofs.Laws.{rest-of, amount-parts, behind-point, no-point}
 use Rattle.values.proofs.mills_of.Statement.{statement}
 use Rattle.values.proofs.mills_of.Tie as tie
 

@@ -1,8 +1,8 @@
 use mathlib.Core.Path.{sym, _∙_}
 use native.Mathlib.Omega.{arith}
 use Rattle.rules.specs.Fix.{numberSaid}
-use Rattle.values.proofs.number_said.Statement.{statement}
-use Rattle.values.proofs.number_said.Tie as tie
+use Rattle.number_values.proofs.number_said.Statement.{statement}
+use Rattle.number_values.proofs.number_said.Tie as tie
 
 number-of-requires : tie.Need-number-of-requires
 number-of-requires c κs = sym (c .before .is-number .ensures) ∙ c .if1 .taken

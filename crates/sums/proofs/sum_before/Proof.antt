@@ -6,9 +6,9 @@ use native.Mathlib.Omega.{arith}
 use lib.ListN.{take}
 use lib.Seq.{slice}
 use Rattle.rules.specs.Fix.{total}
-use Rattle.frame.proofs.Laws.{sum-turn, sum-end}
-use Rattle.frame.proofs.sum_before.Statement.{statement}
-use Rattle.frame.proofs.sum_before.Tie as tie
+use Rattle.sums.proofs.Laws.{sum-turn, sum-end}
+use Rattle.sums.proofs.sum_before.Statement.{statement}
+use Rattle.sums.proofs.sum_before.Tie as tie
 
 abbrev Inv-loop : tie.InvT-loop
 Inv-loop message to sum₀ i₀ sum i = ((sum + total (slice i to message)) % 256 ≡ total (take to message) % 256) × (sum < 256) × (i ≤ to)

@@ -5,9 +5,10 @@ use native.Mathlib.Nat.{div-one}
 use lib.ListN.{length}
 use Rattle.rules.specs.Numerals.{numeral}
 use Rattle.rules.proofs.Tests.{and-true}
-use Rattle.frame.proofs.Laws.{other-length, same-three}
-use Rattle.frame.proofs.is_sum.Statement.{statement}
-use Rattle.frame.proofs.is_sum.Tie as tie
+use Rattle.rules.proofs.Slices.{other-length}
+use Rattle.sums.proofs.Laws.{same-three}
+use Rattle.sums.proofs.is_sum.Statement.{statement}
+use Rattle.sums.proofs.is_sum.Tie as tie
 
 returns : tie.Need-returns
 unfolding numeral

@@ -6,9 +6,9 @@ use Prim.Native.Nat.{_-_, _≤_, _<_}
 use native.Mathlib.Omega.{arith}
 use lib.ListN.{length, drop}
 use Rattle.rules.specs.Numerals.{value, areDigits}
-use Rattle.values.proofs.Laws.{number-parts, number-below, saidWith, front-below, digit-low, digits-rest, said-turn, said-end}
-use Rattle.values.proofs.number_of.Statement.{statement}
-use Rattle.values.proofs.number_of.Tie as tie
+use Rattle.number_values.proofs.Laws.{number-parts, number-below, saidWith, front-below, digit-low, digits-rest, said-turn, said-end}
+use Rattle.number_values.proofs.number_of.Statement.{statement}
+use Rattle.number_values.proofs.number_of.Tie as tie
 
 abbrev Inv-loop : tie.InvT-loop
 Inv-loop v n₀ i₀ n i = (saidWith n (drop i v) ≡ value 10 48 v) × (areDigits 10 48 (drop i v) ≡ true) × (i ≤ length v)

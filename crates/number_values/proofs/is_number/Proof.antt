@@ -2,8 +2,8 @@
 use borrow.Author.Needs.{needs}
 use lib.Seq.{take-length}
 use Rattle.rules.specs.Fix.{isNumber}
-use Rattle.values.proofs.is_number.Statement.{statement}
-use Rattle.values.proofs.is_number.Tie as tie
+use Rattle.number_values.proofs.is_number.Statement.{statement}
+use Rattle.number_values.proofs.is_number.Tie as tie
 
 returns : tie.Need-returns
 unfolding isNumber
