@@ -74,6 +74,15 @@ impl Arrival {
         }
     }
 
+    /// The same order under other settings and another market.
+    pub fn under(&self, settings: &[u64], market: &[u64]) -> Self {
+        Arrival {
+            settings: settings.to_vec(),
+            market: market.to_vec(),
+            ..self.clone()
+        }
+    }
+
     /// The legs, whole ones only.
     pub fn legs(&self) -> Vec<RawLeg> {
         let counts = self.counts.chunks_exact(8);
@@ -91,23 +100,21 @@ impl Arrival {
             .map(|(symbol, count)| format!("{count} of \"{}\"", symbol.escape_ascii()));
         legs.collect::<Vec<_>>().join(", ")
     }
+
+    /// Four words: symbol bytes and count bytes in hexadecimal, price, kind and flags. A dash stands
+    /// for an empty slice.
+    pub fn order_as_text(&self) -> String {
+        let order = [self.kind, self.stop, self.manual, self.opening];
+        let (symbols, counts) = (hexadecimal(&self.symbols), hexadecimal(&self.counts));
+        format!("{symbols} {counts} {} {}", self.price, list(&order))
+    }
 }
 
-/// Six words: symbol bytes and count bytes in hexadecimal, price, kind and flags, settings, market. A
-/// dash stands for an empty slice.
+/// Six words: those of the order, settings, market.
 impl fmt::Display for Arrival {
     fn fmt(&self, f: &mut fmt::Formatter) -> fmt::Result {
-        let order = [self.kind, self.stop, self.manual, self.opening];
-        write!(
-            f,
-            "{} {} {} {} {} {}",
-            hexadecimal(&self.symbols),
-            hexadecimal(&self.counts),
-            self.price,
-            list(&order),
-            list(&self.settings),
-            list(&self.market)
-        )
+        let (settings, market) = (list(&self.settings), list(&self.market));
+        write!(f, "{} {settings} {market}", self.order_as_text())
     }
 }
 

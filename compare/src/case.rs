@@ -172,12 +172,12 @@ impl Case for Pair {
 {contra}
 {}",
             self.continue_unpaired,
-            terms(&self.settings, &self.market),
+            terms(&self.agency.settings, &self.agency.market),
         )
     }
 
     fn count(&self, answer: &PairAnswer, seen: &mut Seen) {
-        seen.count_lengths(&self.settings, &self.market);
+        seen.count_lengths(&self.agency.settings, &self.agency.market);
         *seen.numbers.entry(answer.agency_number).or_default() += 1;
         *seen.contra_numbers.entry(answer.contra_number).or_default() += 1;
         let passing = answer.agency_passes + answer.contra_passes;

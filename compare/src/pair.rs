@@ -3,12 +3,7 @@
 //! one after the other, and pass up to the first group in which an order fails. A pair is one group
 //! of both sides; one marked to continue unpaired is its agency order, then its contra order.
 
-use crate::{
-    arrival::Arrival,
-    numbers::ACCEPTED,
-    order,
-    text::{hexadecimal, list},
-};
+use crate::{arrival::Arrival, numbers::ACCEPTED, order, text::list};
 use std::{fmt, str::FromStr};
 
 /// The first word of a line that holds a pair.
@@ -18,27 +13,14 @@ pub const PAIR: &str = "pair";
 const AGENCY: usize = 0;
 const CONTRA: usize = 1;
 
-/// One order of a pair, without the settings and the market, which are the same for both.
-#[derive(Clone, Debug, PartialEq, Eq)]
-pub struct Side {
-    pub symbols: Vec<u8>,
-    pub counts: Vec<u8>,
-    pub price: i64,
-    pub kind: u64,
-    pub stop: u64,
-    pub manual: u64,
-    pub opening: u64,
-}
-
-/// Everything that one call is handed. The slices may hold anything and be of any length.
+/// Everything that one call is handed: each order as it would arrive alone. The settings and the
+/// market are those of the agency order; the contra order's own count for nothing.
 #[derive(Clone, Debug, PartialEq, Eq)]
 pub struct Pair {
-    pub agency: Side,
-    pub contra: Side,
+    pub agency: Arrival,
+    pub contra: Arrival,
     /// Whether the agency order may pass though its contra order fails.
     pub continue_unpaired: u64,
-    pub settings: Vec<u64>,
-    pub market: Vec<u64>,
 }
 
 /// The whole answer to a pair: both own numbers, that of the agency order first, and 1 for a side
@@ -79,58 +61,18 @@ pub fn answer(numbers: [u64; 2], continue_unpaired: u64) -> PairAnswer {
 impl Pair {
     /// Two orders, both under the settings and the market of the agency order.
     pub fn of(agency: &Arrival, contra: &Arrival, continue_unpaired: u64) -> Self {
-        let Arrival {
-            settings, market, ..
-        } = agency.clone();
         Pair {
-            agency: Side::of(agency),
-            contra: Side::of(contra),
+            agency: agency.clone(),
+            contra: contra.under(&agency.settings, &agency.market),
             continue_unpaired,
-            settings,
-            market,
         }
     }
 
     /// Each order as it would arrive alone, the agency order first.
     pub fn orders(&self) -> [Arrival; 2] {
-        [&self.agency, &self.contra].map(|side| side.under(&self.settings, &self.market))
-    }
-}
-
-impl Side {
-    pub fn of(arrival: &Arrival) -> Self {
-        Side {
-            symbols: arrival.symbols.clone(),
-            counts: arrival.counts.clone(),
-            price: arrival.price,
-            kind: arrival.kind,
-            stop: arrival.stop,
-            manual: arrival.manual,
-            opening: arrival.opening,
-        }
-    }
-
-    fn under(&self, settings: &[u64], market: &[u64]) -> Arrival {
-        Arrival {
-            symbols: self.symbols.clone(),
-            counts: self.counts.clone(),
-            price: self.price,
-            kind: self.kind,
-            stop: self.stop,
-            manual: self.manual,
-            opening: self.opening,
-            settings: settings.to_vec(),
-            market: market.to_vec(),
-        }
-    }
-}
-
-/// The first four words of an arrival.
-impl fmt::Display for Side {
-    fn fmt(&self, f: &mut fmt::Formatter) -> fmt::Result {
-        let order = [self.kind, self.stop, self.manual, self.opening];
-        let (symbols, counts) = (hexadecimal(&self.symbols), hexadecimal(&self.counts));
-        write!(f, "{symbols} {counts} {} {}", self.price, list(&order))
+        let Pair { agency, contra, .. } = self;
+        let contra = contra.under(&agency.settings, &agency.market);
+        [agency.clone(), contra]
     }
 }
 
@@ -142,10 +84,10 @@ impl fmt::Display for Pair {
             f,
             "{PAIR} {} {} {} {} {}",
             self.continue_unpaired,
-            self.agency,
-            self.contra,
-            list(&self.settings),
-            list(&self.market)
+            self.agency.order_as_text(),
+            self.contra.order_as_text(),
+            list(&self.agency.settings),
+            list(&self.agency.market)
         )
     }
 }

@@ -217,7 +217,7 @@ pub fn check_pair(pair: &Pair) -> PairAnswer {
     // SAFETY: as for the order check.
     answer.agency_number = unsafe {
         call!(
-            opc_check_pair, pair,
+            opc_check_pair, agency,
             [
                 agency_symbols: *const u8 = agency.symbols.as_ptr(),
                 agency_symbols_len: usize = agency.symbols.len(),

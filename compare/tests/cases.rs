@@ -220,14 +220,19 @@ impl Varied for Pair {
     ];
 
     fn numbers(&mut self) -> Vec<&mut u64> {
-        let sides = [&mut self.agency, &mut self.contra].into_iter();
-        let flags = sides.flat_map(|side| {
-            let flags = [&mut side.kind, &mut side.stop, &mut side.manual];
-            flags.into_iter().chain([&mut side.opening])
-        });
-        let own = flags.chain([&mut self.continue_unpaired]);
-        let terms = self.settings.iter_mut().chain(&mut self.market);
-        own.chain(terms).collect()
+        let Pair {
+            agency,
+            contra,
+            continue_unpaired,
+        } = self;
+        #[rustfmt::skip]
+        let own = [
+            &mut agency.kind, &mut agency.stop, &mut agency.manual, &mut agency.opening,
+            &mut contra.kind, &mut contra.stop, &mut contra.manual, &mut contra.opening,
+            continue_unpaired,
+        ];
+        let terms = agency.settings.iter_mut().chain(&mut agency.market);
+        own.into_iter().chain(terms).collect()
     }
 
     fn at_near_prices(&self) -> Vec<Self> {
@@ -395,7 +400,7 @@ fn every_case_under_all_terms() {
     let of_orders = cases.orders.iter().map(|order| &order.case);
     let of_orders = of_orders.map(|case| (&case.settings, &case.market));
     let of_pairs = cases.pairs.iter().map(|pair| &pair.case);
-    let of_pairs = of_pairs.map(|case| (&case.settings, &case.market));
+    let of_pairs = of_pairs.map(|case| (&case.agency.settings, &case.agency.market));
     let of_quotes = cases.quotes.iter().map(|quote| &quote.case);
     let of_quotes = of_quotes.map(|case| (&case.settings, &case.market));
     let all = of_orders.chain(of_pairs).chain(of_quotes);

@@ -153,11 +153,7 @@ fn orders_of_cases() {
     let next = orders.iter().cycle().skip(1);
     for (order, next) in orders.iter().zip(next) {
         for beside in [&calls(2), &next.case] {
-            let beside = Arrival {
-                settings: order.case.settings.clone(),
-                market: order.case.market.clone(),
-                ..beside.clone()
-            };
+            let beside = beside.under(&order.case.settings, &order.case.market);
             let numbers = [order.answer.number, unit::check_order(&beside).number];
             hold_both_ways(&mut run, [&order.case, &beside], numbers);
         }

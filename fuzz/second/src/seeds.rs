@@ -6,7 +6,7 @@ use compare::{
     cases,
     generate::{self, legs_of, list_of, reversed},
     osi,
-    pair::{Pair, Side},
+    pair::Pair,
     quote::Quote,
     random::{seed, Random},
     Parts,
@@ -103,7 +103,7 @@ fn slices(seed: &mut Vec<u8>, settings: &[u64], market: &[u64]) {
     }
 }
 
-fn one_order(seed: &mut Vec<u8>, order: &Side) {
+fn one_order(seed: &mut Vec<u8>, order: &Arrival) {
     seed.extend((order.symbols.len() as u16).to_le_bytes());
     seed.push(order.counts.len() as u8);
     seed.extend([&order.symbols[..], &order.counts].concat());
@@ -113,7 +113,7 @@ fn one_order(seed: &mut Vec<u8>, order: &Side) {
 
 fn order(arrival: &Arrival) -> Vec<u8> {
     let mut seed = vec![ORDER, 0, 0];
-    one_order(&mut seed, &Side::of(arrival));
+    one_order(&mut seed, arrival);
     slices(&mut seed, &arrival.settings, &arrival.market);
     seed
 }
@@ -166,7 +166,7 @@ fn pair(pair: &Pair) -> Vec<u8> {
     one_order(&mut seed, &pair.agency);
     one_order(&mut seed, &pair.contra);
     numbers(&mut seed, &[pair.continue_unpaired]);
-    slices(&mut seed, &pair.settings, &pair.market);
+    slices(&mut seed, &pair.agency.settings, &pair.agency.market);
     seed
 }
 
