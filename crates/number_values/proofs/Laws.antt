@@ -1,5 +1,5 @@
 -- A value of one byte; digits as a loop reads them, from the front.
-use mathlib.Core.Path.{_≡_, sym}
+use mathlib.Core.Path.{_≡_, sym, ap, _∙_}
 use mathlib.Core.Bool.{true}
 use mathlib.Core.List.{List, [], _∷_}
 use Prim.Native.Nat.{ℕ, suc, _+_, _-_, _*_, _^_, _≤_, _<_}
@@ -14,13 +14,12 @@ use Rattle.rules.specs.Lists.{sameNumbers}
 use Rattle.rules.specs.Numerals.{value, areDigits}
 use Rattle.rules.specs.Fix.{isNumber}
 use Rattle.rules.proofs.Numerals.{first-digit, value-below}
+use Rattle.rules.proofs.Slices.{whole-bytes}
 use Rattle.rules.proofs.Tests.{and-both, and-true, within-both}
 
 pub one-byte : (v : List ℕ) (b : ℕ) → length v ≡ 1 → eqb (getD v 0 0) b ≡ sameNumbers v (b ∷ [])
 unfolding sameNumbers
-one-byte [] b h = absurd (omega arith)
-one-byte (x ∷ []) b h = sym (and-true (eqb x b))
-one-byte (x ∷ y ∷ zs) b h = absurd (omega arith)
+one-byte v b h = sym (ap (λ l. sameNumbers l (b ∷ [])) (whole-bytes 1 v h) ∙ and-true (eqb (getD v 0 0) b))
 
 -- ---- a number
 

@@ -1,5 +1,5 @@
 -- A sum as a loop finds it byte by byte, and a value of three bytes.
-use mathlib.Core.Path.{_≡_, refl, sym, ap, _∙_}
+use mathlib.Core.Path.{_≡_, ap}
 use mathlib.Core.Bool.{true, _&&_}
 use mathlib.Core.List.{List, [], _∷_}
 use Prim.Native.Nat.{ℕ, _+_, _%_, _≤_, _<_}
@@ -7,10 +7,10 @@ use native.Mathlib.Omega.{arith}
 use native.Mathlib.Numerals.{add-one}
 use lib.Dec.{eqb}
 use lib.ListN.{length, getD}
-use lib.Seq.{take-all, slice, slice-cons, slice-empty}
+use lib.Seq.{slice, slice-cons, slice-empty}
 use Rattle.rules.specs.Lists.{sameNumbers}
 use Rattle.rules.specs.Fix.{total}
-use Rattle.rules.proofs.Slices.{slice-bytes}
+use Rattle.rules.proofs.Slices.{whole-bytes}
 
 -- the bytes from `i` on are still to be added
 module _ (m : List ℕ) (to : ℕ) where
@@ -25,4 +25,4 @@ module _ (m : List ℕ) (to : ℕ) where
 -- a value of three bytes
 pub same-three : (v : List ℕ) (x y z : ℕ) → length v ≡ 3 → sameNumbers v (x ∷ y ∷ z ∷ []) ≡ eqb (getD v 0 0) x && (eqb (getD v 1 0) y && (eqb (getD v 2 0) z && true))
 unfolding sameNumbers
-same-three v x y z h = ap (λ l. sameNumbers l (x ∷ y ∷ z ∷ [])) (sym (take-all 3 v (omega arith)) ∙ slice-bytes 3 0 3 v refl (omega arith))
+same-three v x y z h = ap (λ l. sameNumbers l (x ∷ y ∷ z ∷ [])) (whole-bytes 3 v h)
