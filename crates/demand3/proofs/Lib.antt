@@ -1,6 +1,5 @@
 -- Laws of a walk and of what it pairs, then the theorems that specs/ states.
 pub mod Worth
-pub mod Sides
 pub mod Scaling
 pub mod Units
 pub mod Signs

@@ -16,6 +16,7 @@ pub mod Quote
 pub mod Fix
 pub mod Tally
 pub mod Pair
+pub mod OpenContracts
 pub mod Examples
 pub mod Edges
 pub mod Texts

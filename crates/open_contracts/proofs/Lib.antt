@@ -1,0 +1,5 @@
+pub mod Differences
+pub mod Sides
+pub mod Open
+pub mod Searching
+pub mod Running
