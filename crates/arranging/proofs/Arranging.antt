@@ -17,8 +17,8 @@ use Rattle.rules.specs.Pairing.{strikeKey, expiryKey, wholeLeg, byStrike, byExp
 use Rattle.rules.specs.Valid.{InRange}
 use Rattle.laws.proofs.Sorting.{all-perm, all-map, perm-sym, sort-is-perm, lex-below, lex-level}
 use Rattle.sorting.specs.Keys.{sortKeys, withPlaces, EachTwo}
-use Rattle.sorting.proofs.Laws.{sort-same, sort-places, places-say, each-two-with}
-use Rattle.keys.specs.Tags.{packed, keyOf, tagOf, legAt, legsFrom, legsIn, sequenced, Tagged, Arranged}
+use Rattle.sorting.proofs.Laws.{sort-same, sort-ascends, sort-places, places-say, each-two-mapped, each-two-perm, each-two-both, each-two-with}
+use Rattle.keys.specs.Tags.{packed, keyOf, tagOf, legAt, legsFrom, legsIn, sequenced, Tagged, Rising, Arranged}
 use Rattle.keys.proofs.Keys.{small-digit}
 use Rattle.arranging.proofs.Zip.{zip-take}
 use Rattle.arranging.proofs.Back.{tag-half, tag-small, legs-back}
@@ -145,6 +145,30 @@ module _ (second : Bool) (ls : List Leg) (few : length ls ≤ 16) (range : All (
         each : (ps : List ℕ) → All Says ps → map (λ p. p / 16) ps ≡ map (tagOf second) (map at ps)
         each [] h = refl
         each (p ∷ ps) h = ap₂ _∷_ (sym (h .0 .1)) (each ps (h .1))
+
+    -- sorted numbers ascend, and no two keys are the same
+    pub arranged-rising : Rising n tags
+    arranged-rising = each-two-both _≤_ (λ a b. a / 2 ≡ b / 2 → ⊥) _ (λ a b h d. below a b h d) (take n tags) ascending differ
+      where
+        below : (a b : ℕ) → a ≤ b → (a / 2 ≡ b / 2 → ⊥) → a / 2 < b / 2
+        below a b h d = go (three (a / 2) (b / 2))
+          where
+            go : Three (a / 2) (b / 2) → a / 2 < b / 2
+            go (inl l) = l
+            go (inr (inl l)) = absurd (omega arith)
+            go (inr (inr e)) = absurd (d e)
+
+        ascending : EachTwo _≤_ (take n tags)
+        ascending =
+            rw (arranged .eachTag ∙ ap (map (λ p. p / 16)) order)
+            (each-two-mapped _≤_ (λ p. p / 16) (sortKeys numbers) (each-two-both _≤_ _≤_ (λ p q. p / 16 ≤ q / 16) (λ p q h k. omega arith) (sortKeys numbers) (sort-ascends numbers) (sort-ascends numbers)))
+
+        differ : EachTwo (λ a b. a / 2 ≡ b / 2 → ⊥) (take n tags)
+        differ =
+            rw arranged-tags
+            (each-two-mapped (λ a b. a / 2 ≡ b / 2 → ⊥) (tagOf second) (sequenced second ls)
+            (each-two-perm (λ x y. tagOf second x / 2 ≡ tagOf second y / 2 → ⊥) (λ x y d e. d (sym e)) (perm-sym perm)
+            (each-two-with (λ x y. keyOf second (x .series) ≡ keyOf second (y .series) → ⊥) _ (λ x. InRange (x .series)) (λ x y d r q e. d (sym (tag-half second x) ∙ e ∙ tag-half second y)) ls apart range)))
 
     size-at : (i : ℕ) → i < length ls → getD sizes i 0 ≡ getD ls i noLeg .size
     size-at i h = sym (getD-take n sizes i 0 (omega arith)) ∙ ap (λ (ns : List ℕ). getD ns i 0) counts ∙ List·getD-map (λ x. x .size) ls i noLeg

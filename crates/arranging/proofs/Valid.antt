@@ -20,7 +20,7 @@ use Rattle.sorting.specs.Keys.{sortKeys, withPlaces, EachTwo}
 use Rattle.sorting.proofs.Laws.{each-two-with, each-two-fail}
 use Rattle.keys.specs.Tags.{keyOf, tagOf, legsIn, ValidTags, Arranged}
 use Rattle.arranging.proofs.Back.{key-tells, tag-half}
-use Rattle.arranging.proofs.Arranging.{arranged-tags, arranged-sizes, arranged-legs, arranged-tagged}
+use Rattle.arranging.proofs.Arranging.{arranged-rising, arranged-sizes, arranged-legs, arranged-tagged}
 
 -- ---- another sequence
 
@@ -89,14 +89,6 @@ keys-apart ls v = each-two-with (λ a b. isSameSeries a b ≡ false) Apart (Of (
 
 -- ---- as tags
 
-tags-apart : (ls : List Leg) → EachTwo Apart ls → EachTwo (λ a b. a / 2 ≡ b / 2 → ⊥) (map (tagOf false) ls)
-tags-apart [] h = tt
-tags-apart (x ∷ xs) h = (all-tags xs (h .0), tags-apart xs (h .1))
-  where
-    all-tags : (ys : List Leg) → All (Apart x) ys → All (λ b. tagOf false x / 2 ≡ b / 2 → ⊥) (map (tagOf false) ys)
-    all-tags [] k = tt
-    all-tags (y ∷ ys) k = ((λ e. k .0 (sym (tag-half false x) ∙ e ∙ tag-half false y)), all-tags ys (k .1))
-
 pub ranges : (ls : List Leg) → All IsValidLeg ls → All (λ x. InRange (x .series)) ls
 ranges [] h = tt
 ranges (x ∷ ls) h = (h .0 .series, ranges ls (h .1))
@@ -125,7 +117,7 @@ module _ (ls : List Leg) (v : AreValid ls) (n : ℕ) (many : length ls ≡ n) (f
       record {
         valid = arranged-tagged false ls short range apart n many places sizes tags left order counts arranged;
         full = arranged .fullLeft;
-        apart = rw (arranged-tags false ls short range apart n many places sizes tags left order counts arranged) (tags-apart (byStrike ls) (keys-apart (byStrike ls) s));
+        rising = arranged-rising false ls short range apart n many places sizes tags left order counts arranged;
         counts = rw (arranged-sizes false ls short range apart n many places sizes tags left order counts arranged) (counts-within (byStrike ls) (s .each));
       }
 

@@ -10,6 +10,7 @@ use Rattle.rules.specs.Lists.{All}
 use Rattle.rules.specs.Order.{commonDivisor, divided, units}
 use Rattle.rules.specs.Pairing.{Walked}
 use Rattle.rules.specs.Class.{pairClass, classWith, classOf}
+use Rattle.laws.proofs.Sorting.{all-weaken}
 use Rattle.keys.specs.Tags.{legAt, legsIn}
 
 -- the counts of the legs are the array's
@@ -41,9 +42,13 @@ unfolding units
 legs-units root n tags sizes counts d e f h =
     legs-divided (commonDivisor (legsIn root false n tags sizes)) root n tags sizes counts (d ∙ sym e) (d ∙ sym f) (h (legsIn root false n tags sizes) (legs-sizes root n tags sizes (d ∙ sym e)))
 
-pub all-positive : (ns : List ℕ) → All (λ s. (1 ≤ s) × (s ≤ 10000)) ns → All (λ s. 1 ≤ s) ns
-all-positive [] h = tt
-all-positive (x ∷ ns) h = (h .0 .0, all-positive ns (h .1))
+-- counts in their limits
+module _ (ns : List ℕ) (h : All (λ s. (1 ≤ s) × (s ≤ 10000)) ns) where
+  pub all-positive : All (λ s. 1 ≤ s) ns
+  all-positive = all-weaken {P = λ (s : ℕ). (1 ≤ s) × (s ≤ 10000)} ns (λ s k. k .0) h
+
+  pub all-within : All (λ s. s ≤ 10000) ns
+  all-within = all-weaken {P = λ (s : ℕ). (1 ≤ s) × (s ≤ 10000)} ns (λ s k. k .1) h
 
 -- the class by pairs and loners is that of both walks
 pub classed : (us : List Leg) (w : Walked) {r pairs : ℕ} → r ≡ classWith us pairs → pairs ≡ pairClass w → r ≡ classOf us w

@@ -1,15 +1,14 @@
--- Small signed numbers: the machine holds each, its negative and sums of two.
+-- Small signed numbers: the machine holds each, and their sums and products with a sign.
 use mathlib.Core.Path.{_≡_, refl, sym, ap, _∙_}
 use mathlib.Core.Bool.{Bool, true, false}
-use Prim.Native.Nat.{ℕ, zero, suc, _+_, _-_, _<_, _≤_, _^_}
+use Prim.Native.Nat.{ℕ, zero, suc, _+_, _-_, _*_, _<_, _≤_, _^_}
 use native.Mathlib.Omega.{arith}
-use lib.IntN.{ℤ, pos, negsuc, negℤ, natAbs, subℕ, _+ℤ_, _-ℤ_, +ℤ-idl}
+use lib.IntN.{ℤ, pos, negsuc, negℤ, natAbs, subℕ, _+ℤ_, _*ℤ_}
 use lib.Dec.{ltb}
 use borrow.Author.Tests.{ltb-true, ltb-false}
 use mir.Syntax.{w64}
 use mir.Val.{SFits, toZ, ofZ}
 use mir.ValLaws.{toZ-ofZ}
-use Rattle.rules.specs.OpenContracts.{turned, adjusted}
 
 pub fits : (z : ℤ) → natAbs z ≤ 2000000 → SFits w64 z
 fits (pos n) h = record { sfits = omega arith }
@@ -19,18 +18,6 @@ fits (negsuc n) h = record { sfits = omega arith }
 pub held : (z : ℤ) → natAbs z ≤ 2000000 → toZ w64 (ofZ w64 z) ≡ z
 held z h = toZ-ofZ w64 z (fits z h)
 
-neg-size : (z : ℤ) → natAbs (negℤ z) ≡ natAbs z
-neg-size (pos zero) = refl
-neg-size (pos (suc n)) = refl
-neg-size (negsuc n) = refl
-
-pub turned-size : (bought : Bool) (z : ℤ) → natAbs (turned bought z) ≡ natAbs z
-turned-size true z = refl
-turned-size false z = neg-size z
-
-pub from-zero : (z : ℤ) → pos 0 -ℤ z ≡ negℤ z
-from-zero z = +ℤ-idl (negℤ z)
-
 sub-size : (a b : ℕ) → natAbs (subℕ a b) ≤ a + b
 sub-size a b = go (ltb a b) refl
   where
@@ -38,11 +25,25 @@ sub-size a b = go (ltb a b) refl
     go true e = let l = ltb-true a b e in rw e (omega arith)
     go false e = let l = ltb-false a b e in rw e (omega arith)
 
-sum-size : (y z : ℤ) → natAbs (y +ℤ z) ≤ natAbs y + natAbs z
+pub sum-size : (y z : ℤ) → natAbs (y +ℤ z) ≤ natAbs y + natAbs z
 sum-size (pos a) (pos b) = omega arith
 sum-size (pos a) (negsuc b) = sub-size a (suc b)
 sum-size (negsuc a) (pos b) = omega (arith, sub-size b (suc a))
 sum-size (negsuc a) (negsuc b) = omega arith
 
-pub adjusted-size : (z : ℤ) (bought : Bool) (n : ℕ) → natAbs (adjusted z bought n) ≤ natAbs z + n
-adjusted-size z bought n = omega (arith, sum-size z (turned bought (pos n)), turned-size bought (pos n))
+neg-size : (n : ℕ) → natAbs (negℤ (pos n)) ≡ n
+neg-size zero = refl
+neg-size (suc n) = refl
+
+few : (a b : ℕ) → a ≤ 1 → a * b ≤ b
+few zero b h = omega arith
+few (suc zero) b h = omega arith
+few (suc (suc a)) b h = absurd (omega arith)
+
+-- with a sign, or nothing
+pub sign-size : (s z : ℤ) → natAbs s ≤ 1 → natAbs (s *ℤ z) ≤ natAbs z
+sign-size (pos a) (pos b) h = few a b h
+sign-size (pos a) (negsuc b) h = rw (neg-size (a * suc b)) (few a (suc b) h)
+sign-size (negsuc zero) (pos b) h = rw (neg-size (1 * b)) (omega arith)
+sign-size (negsuc zero) (negsuc b) h = omega arith
+sign-size (negsuc (suc a)) z h = absurd (omega arith)

@@ -1,32 +1,21 @@
-// A signed figure of contracts, bought less sold.
+// A signed figure of contracts, bought less sold. A side has a sign: 1 for bought, -1 for sold.
 ghost use mathlib.Core.Path.{_≡_};
 ghost use Prim.Native.Nat.{_≤_};
-ghost use lib.IntN.{natAbs};
-ghost use Rattle.rules.specs.OpenContracts as figures;
+ghost use lib.IntN.{pos, natAbs, _+ℤ_, _*ℤ_};
+ghost use lib.Signed.{ltZ};
 
-// As one side counts: what is bought less what is sold, or what is sold less what is bought.
-fn turned(bought: bool, figure: i64) -> i64
-    requires { ⌜ natAbs figure ≤ 1000000 ⌝ }
-    ensures { λ r. ⌜ r ≡ figures.turned bought figure ⌝ }
+// With n contracts more on the side of the sign, or as many fewer on the other.
+pub fn adjusted(figure: i64, sign: i64, n: u64) -> i64
+    requires { ⌜ (natAbs figure ≤ 1000000) × (natAbs sign ≤ 1) × (n ≤ 1000000) ⌝ }
+    ensures { λ r. ⌜ r ≡ figure +ℤ sign *ℤ pos n ⌝ }
 {
-    if bought {
-        return figure;
-    }
-    -figure
+    figure + sign * n as i64
 }
 
-// With n contracts more on a side, or as many fewer on the other.
-pub fn adjusted(figure: i64, bought: bool, n: u64) -> i64
-    requires { ⌜ (natAbs figure ≤ 1000000) × (n ≤ 1000000) ⌝ }
-    ensures { λ r. ⌜ r ≡ figures.adjusted figure bought n ⌝ }
+// Whether contracts of the other side are open.
+pub fn shows_other(figure: i64, sign: i64) -> bool
+    requires { ⌜ (natAbs figure ≤ 1000000) × (natAbs sign ≤ 1) ⌝ }
+    ensures { λ r. ⌜ r ≡ ltZ (sign *ℤ figure) (pos 0) ⌝ }
 {
-    figure + turned(bought, n as i64)
-}
-
-// Whether contracts of a side are open.
-pub fn shows(figure: i64, bought: bool) -> bool
-    requires { ⌜ natAbs figure ≤ 1000000 ⌝ }
-    ensures { λ r. ⌜ r ≡ figures.shows figure bought ⌝ }
-{
-    0 < turned(bought, figure)
+    sign * figure < 0
 }

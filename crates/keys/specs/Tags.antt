@@ -75,11 +75,15 @@ pub record Tagged (n : ℕ) (tags : List ℕ) : Type 0 where
   pub full : length tags ≡ 16
   pub small : All (λ t. t < 40000000000000000) (take n tags)
 
--- the legs of a valid order: no series twice, and counts in their limits
+-- in a walk's sequence and no series twice: the keys of the first `n` rise
+abbrev pub Rising : ℕ → List ℕ → Type 0
+Rising n tags = EachTwo (λ a b. a / 2 < b / 2) (take n tags)
+
+-- the legs of a valid order in the first walk's sequence, and counts in their limits
 pub record ValidTags (n : ℕ) (tags sizes : List ℕ) : Type 0 where
   pub valid : Tagged n tags
   pub full : length sizes ≡ 16
-  pub apart : EachTwo (λ a b. a / 2 ≡ b / 2 → ⊥) (take n tags)
+  pub rising : Rising n tags
   pub counts : All (λ s. (1 ≤ s) × (s ≤ 10000)) (take n sizes)
 
 -- ---- legs that are not sorted yet

@@ -9,6 +9,7 @@ ghost use mathlib.Core.Bool.{false};
 ghost use Prim.Native.Nat.{_+_, _*_, _≤_, _<_};
 ghost use lib.ListN.{length};
 ghost use Rattle.rules.specs.Pairing.{digit};
+ghost use Rattle.rules.specs.OpenContracts.{sign};
 ghost use Rattle.rules.specs.Valid.{InRange};
 ghost use Rattle.keys.specs.Tags.{keyOf, isBought, groupOf, legAt, secondTag, placeOf, keyIn, Arranged};
 
@@ -29,6 +30,13 @@ pub fn is_bought(tag: u64) -> bool
     ensures { λ r. ⌜ r ≡ isBought tag ⌝ }
 {
     tag % 2 == 1
+}
+
+// The sign of a tag's side: 1 for bought, -1 for sold.
+pub fn sign_of(tag: u64) -> i64
+    ensures { λ r. ⌜ r ≡ sign (isBought tag) ⌝ }
+{
+    2 * (tag % 2) as i64 - 1
 }
 
 // What the legs that are walked together have in common.

@@ -3,11 +3,11 @@ use mathlib.Core.Path.{_≡_, refl, sym, ap, _∙_}
 use mathlib.Core.Bool.{Bool, true, false, cond, not}
 use Prim.Native.Nat.{ℕ, zero, suc, _+_, _-_, _<_, _≤_}
 use native.Mathlib.Omega.{arith}
-use lib.IntN.{ℤ, pos, negsuc, negℤ, natAbs, subℕ, _+ℤ_, +ℤ-idr}
+use lib.IntN.{ℤ, pos, negsuc, negℤ, natAbs, subℕ, _+ℤ_, _*ℤ_, +ℤ-idr, *ℤ-comm, *ℤ-one, *ℤ-negsuc}
 use lib.Dec.{ltb}
 use lib.Signed.{ltZ}
 use borrow.Author.Tests.{ltb-true, ltb-false, lt-ltb, le-ltb}
-use Rattle.rules.specs.OpenContracts.{turned, adjusted, shows}
+use Rattle.rules.specs.OpenContracts.{sign, adjusted, showsOther}
 
 sub-le : (a b : ℕ) → b ≤ a → subℕ a b ≡ pos (a - b)
 sub-le a b h = rw (le-ltb a b h)
@@ -48,14 +48,16 @@ take-sub b s (suc n) = split b s
     (λ h. ap (λ (z : ℤ). z +ℤ negsuc n) (sub-le b s h) ∙ sub-same (b - s) (suc n) b (s + suc n) (omega arith))
     (λ h. ap (λ (z : ℤ). z +ℤ negsuc n) (sub-lt b s h) ∙ ap negsuc (omega arith) ∙ sym (sub-lt b (s + suc n) (omega arith)))
 
-above : (b s : ℕ) → ltZ (pos 0) (subℕ b s) ≡ ltb s b
-above b s = split b s
-    (λ h. ap (ltZ (pos 0)) (sub-le b s h) ∙ go (ltb s b) refl)
-    (λ h. ap (ltZ (pos 0)) (sub-lt b s h) ∙ sym (le-ltb s b (omega arith)))
-  where
-    go : (t : Bool) → ltb s b ≡ t → ltb 0 (b - s) ≡ t
-    go true e = lt-ltb 0 (b - s) (omega (arith, ltb-true s b e))
-    go false e = le-ltb 0 (b - s) (omega (arith, ltb-false s b e))
+-- a number with a side's sign
+pub sign-turns : (bought : Bool) (z : ℤ) → sign bought *ℤ z ≡ cond bought z (negℤ z)
+unfolding lib.IntN.one
+sign-turns true z = *ℤ-comm (pos 1) z ∙ *ℤ-one z
+sign-turns false z = *ℤ-comm (negsuc 0) z ∙ *ℤ-negsuc z 0 ∙ ap negℤ (*ℤ-one z)
+
+below : (b s : ℕ) → ltZ (subℕ b s) (pos 0) ≡ ltb b s
+below b s = split b s
+    (λ h. ap (λ (z : ℤ). ltZ z (pos 0)) (sub-le b s h) ∙ le-ltb (b - s) 0 (omega arith) ∙ sym (le-ltb b s h))
+    (λ h. ap (λ (z : ℤ). ltZ z (pos 0)) (sub-lt b s h) ∙ sym (lt-ltb b s h))
 
 -- what of one number is more than of the other: `count` of each side, true the first number
 module _ (count : Bool → ℕ) where
@@ -64,13 +66,13 @@ module _ (count : Bool → ℕ) where
 
   -- adjusted by what one side has more, or the other less
   pub adjusted-net : (after : Bool → ℕ) (side : Bool) (n : ℕ) → count side + n + after (not side) ≡ after side + count (not side) → adjusted net side n ≡ subℕ (after true) (after false)
-  adjusted-net after true n h = add-sub (count true) (count false) n ∙ sub-same (count true + n) (count false) (after true) (after false) h
-  adjusted-net after false n h = take-sub (count true) (count false) n ∙ sub-same (count true) (count false + n) (after true) (after false) (omega arith)
+  adjusted-net after true n h = ap (λ (z : ℤ). net +ℤ z) (sign-turns true (pos n)) ∙ add-sub (count true) (count false) n ∙ sub-same (count true + n) (count false) (after true) (after false) h
+  adjusted-net after false n h = ap (λ (z : ℤ). net +ℤ z) (sign-turns false (pos n)) ∙ take-sub (count true) (count false) n ∙ sub-same (count true) (count false + n) (after true) (after false) (omega arith)
 
-  -- the sign
-  pub shows-net : (side : Bool) → shows net side ≡ ltb (count (not side)) (count side)
-  shows-net true = above (count true) (count false)
-  shows-net false = ap (ltZ (pos 0)) (sub-neg (count true) (count false)) ∙ above (count false) (count true)
+  -- which side is more
+  pub shows-net : (side : Bool) → showsOther net side ≡ ltb (count side) (count (not side))
+  shows-net true = ap (λ (z : ℤ). ltZ z (pos 0)) (sign-turns true net) ∙ below (count true) (count false)
+  shows-net false = ap (λ (z : ℤ). ltZ z (pos 0)) (sign-turns false net ∙ sub-neg (count true) (count false)) ∙ below (count false) (count true)
 
   pub net-small : (most : ℕ) → ((side : Bool) → count side ≤ most) → natAbs net ≤ most
   net-small most h = split (count true) (count false)

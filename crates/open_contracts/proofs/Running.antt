@@ -12,7 +12,7 @@ use Rattle.rules.specs.declared.Series.{Series}
 use Rattle.rules.specs.declared.Leg.{Leg}
 use Rattle.rules.specs.Lists.{All, lex, sameBool}
 use Rattle.rules.specs.Pairing.{digit, less, matched, reach, walk, oneExpiry, oneStrike, strikeKey, expiryKey, wholeLeg, byStrike, byExpiry}
-use Rattle.rules.specs.OpenContracts.{adjusted, shows, openOn, openContracts, begun, searched, figure, Figure, FigureOf, RunningFigure}
+use Rattle.rules.specs.OpenContracts.{adjusted, showsOther, openOn, openContracts, begun, searched, figure, Figure, FigureOf, RunningFigure}
 use Rattle.rules.proofs.Tests.{and-both, and-of, same-eq}
 use Rattle.laws.proofs.Sorting.{Step, step, Rises, sort-rises, all-weaken}
 use Rattle.open_contracts.proofs.Differences.{adjusted-net}
@@ -110,7 +110,7 @@ module _ (same : Series → Series → Bool) where
           ap₂ (λ (z : ℤ) (b : Bool). adjusted z b (r .leg .size)) e (sym (k .1))
           ∙ closing (x .series) (r .leg) (r .legs) (rw (k .0) (grouping .self (x .series)))
 
-      unshown : (met others : List Leg) → walk same xs .legs ≡ met ++ others → shows (searched same (start x xs) x met) (not (x .bought)) ≡ false
+      unshown : (met others : List Leg) → walk same xs .legs ≡ met ++ others → showsOther (searched same (start x xs) x met) (x .bought) ≡ false
           → reach same (reach same x met .leg) others ≡ record { pairs = []; leg = reach same x met .leg; legs = others }
       unshown met others e h =
           let s = x .series in

@@ -14,7 +14,7 @@ use Rattle.rules.specs.declared.Leg.{Leg}
 use Rattle.rules.specs.Lists.{All, sameBool}
 use Rattle.rules.specs.Order.{noLeg}
 use Rattle.rules.specs.Pairing.{less, matched, reach}
-use Rattle.rules.specs.OpenContracts.{adjusted, shows, openOn, openContracts}
+use Rattle.rules.specs.OpenContracts.{adjusted, showsOther, openOn, openContracts}
 use Rattle.open_contracts.proofs.Open.{legOpen, OneSided, Lined, adjusted-open, shows-open, open-set, open-past, taken-other, taken-own, less-few, all-taken, idle, spent, no-other}
 
 -- `x` has met those before `rest`, of all that stand `behind` it
@@ -33,24 +33,21 @@ module _ (same : Series → Series → Bool) where
   -- ---- the figure `f` of what the legs `ys` have open, as a leg of the group of `s` sees it: `bought` is its side
 
   module _ (s : Series) (bought : Bool) (ys : List Leg) {f : ℤ} (e : f ≡ openContracts same s ys) (one : OneSided same s ys) where
-    shown : shows f (not bought) ≡ ltb (openOn same bought s ys) (openOn same (not bought) s ys)
-    shown =
-        ap (λ (z : ℤ). shows z (not bought)) e
-        ∙ shows-open same s ys (not bought)
-        ∙ ap (λ (b : Bool). ltb (openOn same b s ys) (openOn same (not bought) s ys)) (not-not bought)
+    shown : showsOther f bought ≡ ltb (openOn same bought s ys) (openOn same (not bought) s ys)
+    shown = ap (λ (z : ℤ). showsOther z bought) e ∙ shows-open same s ys bought
 
     own-none : 0 < openOn same (not bought) s ys → openOn same bought s ys ≡ 0
     own-none p = ap (λ (b : Bool). openOn same b s ys) (sym (not-not bought)) ∙ one (not bought) p
 
     -- it shows the other side: that is open, and nothing else
-    only-other : shows f (not bought) ≡ true → (0 < openOn same (not bought) s ys) × (openOn same bought s ys ≡ 0)
+    only-other : showsOther f bought ≡ true → (0 < openOn same (not bought) s ys) × (openOn same bought s ys ≡ 0)
     only-other h =
         let l = ltb-true (openOn same bought s ys) (openOn same (not bought) s ys) (sym shown ∙ h) in
         let p : 0 < openOn same (not bought) s ys = omega arith in
         (p, own-none p)
 
     -- it does not: nothing of the other side is open
-    pub none-other : shows f (not bought) ≡ false → openOn same (not bought) s ys ≡ 0
+    pub none-other : showsOther f bought ≡ false → openOn same (not bought) s ys ≡ 0
     none-other h =
         let l = ltb-false (openOn same bought s ys) (openOn same (not bought) s ys) (sym shown ∙ h) in
         go (openOn same (not bought) s ys) refl l
@@ -67,22 +64,22 @@ module _ (same : Series → Series → Bool) where
 
   module _ {x : Leg} {behind rest : List Leg} {f : ℤ} (g : Searching same x behind rest f) where
     -- the search may end
-    pub stop : (x .size ≡ 0) ⊎ (shows f (not (x .bought)) ≡ false) → reach same x rest ≡ record { pairs = []; leg = x; legs = rest }
+    pub stop : (x .size ≡ 0) ⊎ (showsOther f (x .bought) ≡ false) → reach same x rest ≡ record { pairs = []; leg = x; legs = rest }
     stop (inl e) = idle same x rest (spent same x rest e)
     stop (inr e) = idle same x rest (no-other same x rest (omega (arith, none-other (x .series) (x .bought) behind (g .figure) (g .oneSided) e, g .within (not (x .bought)))))
 
     -- what the figure shows is still to be met
-    still : 0 < x .size → shows f (not (x .bought)) ≡ true → 0 < openOn same (not (x .bought)) (x .series) rest
+    still : 0 < x .size → showsOther f (x .bought) ≡ true → 0 < openOn same (not (x .bought)) (x .series) rest
     still p e = omega (arith, only-other (x .series) (x .bought) behind (g .figure) (g .oneSided) e .0, g .toCome p)
 
   -- there is a next leg
-  pub some : {x : Leg} {behind : List Leg} {f : ℤ} → Searching same x behind [] f → 0 < x .size → shows f (not (x .bought)) ≡ true → ⊥
+  pub some : {x : Leg} {behind : List Leg} {f : ℤ} → Searching same x behind [] f → 0 < x .size → showsOther f (x .bought) ≡ true → ⊥
   unfolding openOn
   some g p e = absurd (omega (arith, still g p e))
 
   module _ {x y : Leg} {behind rest : List Leg} {f : ℤ} (g : Searching same x behind (y ∷ rest) f) where
     -- of which as many contracts are matched as the smaller has open
-    pub meets : Lined same (x .series) (y ∷ rest) → 0 < x .size → shows f (not (x .bought)) ≡ true → matched same x y ≡ min (x .size) (y .size)
+    pub meets : Lined same (x .series) (y ∷ rest) → 0 < x .size → showsOther f (x .bought) ≡ true → matched same x y ≡ min (x .size) (y .size)
     unfolding matched openOn
     meets lined p e =
         go (same (x .series) (y .series)) refl (x .bought) (y .bought) (still g p e) (g .within (x .bought)) (only-other (x .series) (x .bought) behind (g .figure) (g .oneSided) e .1)
@@ -97,6 +94,24 @@ module _ (same : Series → Series → Bool) where
         go true q true false h w z = refl
         go true q false true h w z = refl
         go true q false false h w z = omega arith
+
+    -- a leg that has nothing left is passed
+    pub pass : y .size ≡ 0 → Searching same x behind rest f
+    unfolding openOn
+    pass e =
+        record {
+          figure = g .figure;
+          oneSided = g .oneSided;
+          toCome = λ p. omega (arith, g .toCome p, none (not (x .bought)));
+          within = λ side. omega (arith, g .within side);
+        }
+      where
+        none : (side : Bool) → legOpen same side (x .series) y ≡ 0
+        none side = go (same (x .series) (y .series) && sameBool side (y .bought))
+          where
+            go : (b : Bool) → cond b (y .size) 0 ≡ 0
+            go true = e
+            go false = refl
 
     -- and the search goes on behind it
     pub next : (k m : ℕ) → k < length behind → getD behind k noLeg ≡ y → m ≡ matched same x y → Searching same (less x m) (set behind k (less y m)) rest (adjusted f (x .bought) m)

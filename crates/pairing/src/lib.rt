@@ -14,12 +14,13 @@ use walk::walk;
 ghost use mathlib.Core.Path.{_≡_};
 ghost use mathlib.Core.List.{map};
 ghost use mathlib.Core.Bool.{false};
-ghost use Prim.Native.Nat.{ℕ, _/_};
+ghost use Prim.Native.Nat.{ℕ};
 ghost use lib.ListN.{length, take};
 ghost use Rattle.rules.specs.Pairing.{oneStrike, byExpiry};
 ghost use Rattle.rules.specs.Pairing as pairing;
-ghost use Rattle.sorting.specs.Keys.{withPlaces, EachTwo};
+ghost use Rattle.sorting.specs.Keys.{withPlaces};
 ghost use Rattle.keys.specs.Tags.{secondTag, legsIn, Tagged};
+ghost use Rattle.tagged.specs.Tags.{InSequence};
 ghost use Rattle.loners.specs.Tallies.{tallyClass};
 ghost use Rattle.walks.specs.Both.{tallied, BothWalks};
 
@@ -44,7 +45,7 @@ fn second_places(tags: &[u64; 16], n: usize, places: &mut [u64; 16])
 
 // Pairs and loners of the second walk, which takes what the first left of every leg.
 fn second_walk(tags: &[u64; 16], left: &[u64; 16], n: usize) -> PairTally
-    requires { ⌜ Tagged n (now tags) × (length (now left) ≡ 16) × EachTwo (λ a b. a / 2 ≡ b / 2 → ⊥) (take n (now tags)) ⌝ }
+    requires { ⌜ InSequence n (now tags) (now left) ⌝ }
     ensures { λ r. ⌜ ((root : ℕ) → r ≡ tallied (pairing.walk oneStrike (byExpiry (legsIn root false n (now (tags .entry)) (now (left .entry)))))) ⌝ }
 {
     let mut places = [0u64; 16];
@@ -58,7 +59,7 @@ fn second_walk(tags: &[u64; 16], left: &[u64; 16], n: usize) -> PairTally
 
 // Pairs and loners of both walks. Where the first leaves contracts of one side alone, the second would match none.
 fn tally(tags: &[u64; 16], left: &mut [u64; 16], n: usize, european: bool) -> PairTally
-    requires { ⌜ Tagged n (now tags) × (length (now left) ≡ 16) × EachTwo (λ a b. a / 2 ≡ b / 2 → ⊥) (take n (now tags)) ⌝ }
+    requires { ⌜ InSequence n (now tags) (now left) ⌝ }
     ensures { λ r. ⌜ ((root : ℕ) → BothWalks european (legsIn root false n (now (tags .entry)) (now (left .entry))) (r .pairs) (tallyClass r)) ⌝ }
 {
     let pairs = walk(tags, left, n, false);
@@ -74,10 +75,10 @@ fn tally(tags: &[u64; 16], left: &mut [u64; 16], n: usize, european: bool) -> Pa
     joined(pairs, second_walk(tags, left, n))
 }
 
-// The legs are listed latest walked first, no series twice. The second walk takes what the first left, unless the class
+// The legs are listed latest walked first. The second walk takes what the first left, unless the class
 // is European.
 pub fn both_walks(tags: &[u64; 16], left: &mut [u64; 16], n: usize, european: bool) -> Paired
-    requires { ⌜ Tagged n (now tags) × (length (now left) ≡ 16) × EachTwo (λ a b. a / 2 ≡ b / 2 → ⊥) (take n (now tags)) ⌝ }
+    requires { ⌜ InSequence n (now tags) (now left) ⌝ }
     ensures { λ r. ⌜ ((root : ℕ) → BothWalks european (legsIn root false n (now (tags .entry)) (now (left .entry))) (r .pairings) (r .class)) ⌝ }
 {
     let t = tally(tags, left, n, european);

@@ -1,26 +1,26 @@
 -- Document 02, S-3: the open contracts of a walk as a running figure.
 use mathlib.Core.Path.{_≡_}
 use mathlib.Core.List.{List, [], _∷_, _++_}
-use mathlib.Core.Bool.{Bool, true, false, cond, not, _&&_}
+use mathlib.Core.Bool.{Bool, true, false, cond, _&&_}
 use Prim.Native.Nat.{ℕ, _+_}
-use lib.IntN.{ℤ, pos, negℤ, subℕ, _+ℤ_}
+use lib.IntN.{ℤ, pos, negℤ, subℕ, _+ℤ_, _*ℤ_}
 use lib.Signed.{ltZ}
 use Rattle.rules.specs.declared.Series.{Series}
 use Rattle.rules.specs.declared.Leg.{Leg}
 use Rattle.rules.specs.Lists.{sameBool}
 use Rattle.rules.specs.Pairing.{less, matched, reach, walk, oneExpiry, oneStrike, byStrike, byExpiry}
 
--- a number as a side counts it: sold contracts have the other sign
-abbrev pub turned : Bool → ℤ → ℤ
-turned bought z = cond bought z (negℤ z)
+-- "bought less sold": what is bought counts 1, what is sold less 1
+abbrev pub sign : Bool → ℤ
+sign bought = cond bought (pos 1) (negℤ (pos 1))
 
 -- "adjusted at each match and for contracts left open": `n` contracts of the other side are closed, or `n` of the leg's own side stay open
 abbrev pub adjusted : ℤ → Bool → ℕ → ℤ
-adjusted f bought n = f +ℤ turned bought (pos n)
+adjusted f bought n = f +ℤ sign bought *ℤ pos n
 
--- whether the figure "shows" open contracts of a side
-abbrev pub shows : ℤ → Bool → Bool
-shows f bought = ltZ (pos 0) (turned bought f)
+-- "where it shows the other side": other than the leg's own
+abbrev pub showsOther : ℤ → Bool → Bool
+showsOther f bought = ltZ (sign bought *ℤ f) (pos 0)
 
 -- `same` tells which series are walked together, as in the walk
 module _ (same : Series → Series → Bool) where
@@ -59,7 +59,7 @@ module _ (same : Series → Series → Bool) where
     pub afterLeg : figure (x ∷ xs) ≡ openContracts (x .series) (walk same (x ∷ xs) .legs)
     -- "search for a match only where it shows the other side": where it does not, none is left to find
     pub unshown : (met others : List Leg) → walk same xs .legs ≡ met ++ others
-        → shows (searched (begun (figure xs) x xs) x met) (not (x .bought)) ≡ false
+        → showsOther (searched (begun (figure xs) x xs) x met) (x .bought) ≡ false
         → reach same (reach same x met .leg) others ≡ record { pairs = []; leg = reach same x met .leg; legs = others }
 
 -- every prefix of a walk: of the legs in its sequence, latest walked first, `x` is reached after `xs` and before `later`

@@ -1,3 +1,5 @@
+pub mod Signs
 pub mod Tagging
 pub mod Walking
 pub mod Numbered
+pub mod Figures

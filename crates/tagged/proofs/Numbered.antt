@@ -33,7 +33,7 @@ unfolding noteAt
 note-none t second tx ty = refl
 
 module _ (P : ℕ → Type 0) where
-  all-at : (xs : List ℕ) → All P xs → (i : ℕ) → i < length xs → P (getD xs i 0)
+  pub all-at : (xs : List ℕ) → All P xs → (i : ℕ) → i < length xs → P (getD xs i 0)
   all-at [] h i l = absurd (omega arith)
   all-at (x ∷ xs) h zero l = h .0
   all-at (x ∷ xs) h (suc i) l = all-at xs (h .1) i (omega arith)
@@ -55,7 +55,7 @@ module _ (tags : List ℕ) (n : ℕ) (tg : Tagged n tags) (second : Bool) (root 
   pub legs-full : (left : List ℕ) → length left ≡ 16 → length (legs left) ≡ 16
   legs-full left l = zip-length (legAt root second) tags left (tg .full ∙ sym l) ∙ tg .full
 
-  leg-is : (left : List ℕ) (i : ℕ) → length left ≡ 16 → i < 16 → getD (legs left) i noLeg ≡ legAt root second (getD tags i 0) (getD left i 0)
+  pub leg-is : (left : List ℕ) (i : ℕ) → length left ≡ 16 → i < 16 → getD (legs left) i noLeg ≡ legAt root second (getD tags i 0) (getD left i 0)
   leg-is left i l h = zip-at (legAt root second) tags left i 0 0 noLeg (omega (arith, tg .full)) (omega arith)
 
   pub inner-turn : (left : List ℕ) (t t′ : PairTally) (tx x j m : ℕ) → length left ≡ 16 → tx < 40000000000000000 → j < n
@@ -84,8 +84,9 @@ module _ (tags : List ℕ) (n : ℕ) (tg : Tagged n tags) (second : Bool) (root 
       ∙ ap (λ (y : ℕ). inner tags n second root (set left j (getD left j 0 - 0)) t tx y (j + 1)) (sym (sub-zero x))
       ∙ inner-turn left t t tx x j 0 l small h (sym e) (note-none t second tx (getD tags j 0))
 
-  -- the leg at `i` has met all, and is put back
-  module _ (left₀ left : List ℕ) (l₀ : length left₀ ≡ 16) (l : length left ≡ 16) (t₀ t : PairTally) (x i j : ℕ) (h : i < n) (last : j ≡ n)
+  -- the leg at `i` has nothing more to meet, and is put back
+  module _ (left₀ left : List ℕ) (l₀ : length left₀ ≡ 16) (l : length left ≡ 16) (t₀ t : PairTally) (x i j : ℕ) (h : i < n) (within : j ≤ n)
+      (last : reach (together second) (legAt root second (getD tags i 0) x) (drop j (take n (legs left))) ≡ record { pairs = []; leg = legAt root second (getD tags i 0) x; legs = drop j (take n (legs left)) })
       (kept : inner tags n second root left t (getD tags i 0) x j ≡ inner tags n second root left₀ t₀ (getD tags i 0) (getD left₀ i 0) (i + 1)) where
     q : Reached
     q = reached root tags left₀ i n second
@@ -93,7 +94,7 @@ module _ (tags : List ℕ) (n : ℕ) (tg : Tagged n tags) (second : Bool) (root 
     all-met : record { tally = t; leg = legAt root second (getD tags i 0) x; legs = take n (legs left) } ≡ view t₀ (take (i + 1) (legs left₀)) q
     unfolding q
     all-met =
-        sym (over (legs left) n (legs-full left l) fits (together second) t (legAt root second (getD tags i 0) x) j last)
+        sym (over (legs left) n (legs-full left l) fits (together second) t (legAt root second (getD tags i 0) x) j within last)
         ∙ kept
         ∙ ap (λ (w : Leg). view t₀ (take (i + 1) (legs left₀)) (reach (together second) w (drop (i + 1) (take n (legs left₀))))) (sym (leg-is left₀ i l₀ (omega arith)))
 

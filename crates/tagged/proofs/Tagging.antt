@@ -1,19 +1,23 @@
 -- What a match of two legs is, by their tags.
 use mathlib.Core.Path.{_≡_, refl, sym, ap, ap₂, _∙_}
 use mathlib.Core.List.{[], _∷_}
-use mathlib.Core.Bool.{Bool, true, false, cond, not, _&&_}
-use Prim.Native.Nat.{ℕ, zero, suc, _-_, _/_, _%_, _≤_, _<_, min}
-use native.Mathlib.Nat.{pos-of-ne-zero}
+use mathlib.Core.Bool.{Bool, true, false, cond, not, _&&_, _||_}
+use Prim.Native.Nat.{ℕ, zero, suc, _+_, _-_, _/_, _%_, _≤_, _<_, min}
+use native.Mathlib.Nat.{pos-of-ne-zero, add-zero}
 use native.Mathlib.Omega.{arith}
 use lib.Dec.{eqb, ltb}
 use borrow.Author.Tests.{eqb-true, eqb-false, eq-eqb, ltb-true, lt-ltb, le-ltb}
 use Rattle.rules.specs.declared.Leg.{Leg}
 use Rattle.rules.specs.Lists.{sameBool}
 use Rattle.rules.specs.Pairing.{pairOf, matched, isDebit}
-use Rattle.rules.proofs.Tests.{and-both, same-test}
+use Rattle.rules.proofs.Tests.{and-both, or-false, same-test}
 use Rattle.keys.specs.Tags.{isBought, groupOf, seriesAt, legAt}
 use Rattle.tagged.specs.declared.PairTally.{PairTally}
-use Rattle.tagged.specs.Tags.{together, matchedAt, debitKeys, debitAt, oneMore, noteAt, noted}
+use Rattle.tagged.specs.Tags.{together, matchedAt, debitKeys, debitAt, oneMore, noteAs, noteAt, counted, noted}
+
+or-true : (a : Bool) → a || true ≡ true
+or-true true = refl
+or-true false = refl
 
 abbrev Small : ℕ → Type 0
 Small tag = tag < 40000000000000000
@@ -47,7 +51,7 @@ group-keys second k l hk hl = go second
     go false = ap (λ (b : Bool). b && eqb (k / 100000000 % 100000000) (l / 100000000 % 100000000)) digits ∙ both
 
 module _ (root : ℕ) (second : Bool) (tx ty : ℕ) (hx : Small tx) (hy : Small ty) where
-  group : together second (seriesAt second (tx / 2)) (seriesAt second (ty / 2)) ≡ eqb (groupOf tx) (groupOf ty)
+  pub group : together second (seriesAt second (tx / 2)) (seriesAt second (ty / 2)) ≡ eqb (groupOf tx) (groupOf ty)
   group =
       let a : tx / 2 / 100000000 ≡ groupOf tx = omega arith in
       let b : ty / 2 / 100000000 ≡ groupOf ty = omega arith in
@@ -110,6 +114,28 @@ note-tags t root second tx x ty y n h = go (eqb n 0) refl
         let z = eqb-false n 0 e in
         let g : tx / 2 / 100000000 ≡ ty / 2 / 100000000 = omega (arith, h (pos-of-ne-zero z)) in
         ap (noted t) (pair-some (legAt root second tx x) (legAt root second ty y) n z) ∙ ap (oneMore t) (turn second (isBought tx) (tx / 2) (ty / 2) g)
+
+-- keys rise: which of two legs has the greater key is known, and the side of the first decides
+pub note-rising : (t : PairTally) (second : Bool) (tx ty n : ℕ) → tx / 2 < ty / 2 → noteAs t (sameBool (isBought tx) second) n ≡ noteAt t second tx ty n
+unfolding noteAt
+note-rising t second tx ty n h = ap (λ (d : Bool). noteAs t d n) (go (isBought tx) second)
+  where
+    go : (b s : Bool) → sameBool b s ≡ cond b (debitKeys s (tx / 2) (ty / 2)) (debitKeys s (ty / 2) (tx / 2))
+    go true true = sym (lt-ltb (tx / 2) (ty / 2) h)
+    go true false = sym (le-ltb (ty / 2) (tx / 2) (omega arith))
+    go false true = sym (le-ltb (ty / 2) (tx / 2) (omega arith))
+    go false false = sym (lt-ltb (tx / 2) (ty / 2) h)
+
+-- one pair more is one debit or one credit more
+pub counted-more : (debits credits : ℕ) (d : Bool) → counted (debits + cond d 1 0) (credits + cond d 0 1) ≡ oneMore (counted debits credits) d
+counted-more debits credits true = λ i. record { pairs = sum i; debit = (lt-ltb 0 (debits + 1) (omega arith) ∙ sym (or-true (ltb 0 debits))) i; credit = (ap (ltb 0) (add-zero credits) ∙ sym (or-false (ltb 0 credits))) i }
+  where
+    sum : debits + 1 + (credits + 0) ≡ debits + credits + 1
+    sum = omega arith
+counted-more debits credits false = λ i. record { pairs = sum i; debit = (ap (ltb 0) (add-zero debits) ∙ sym (or-false (ltb 0 debits))) i; credit = (lt-ltb 0 (credits + 1) (omega arith) ∙ sym (or-true (ltb 0 credits))) i }
+  where
+    sum : debits + 0 + (credits + 1) ≡ debits + credits + 1
+    sum = omega arith
 
 -- what is matched is of one group
 pub matched-group : (tx x ty y : ℕ) → 0 < matchedAt tx x ty y → groupOf tx ≡ groupOf ty

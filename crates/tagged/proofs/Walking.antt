@@ -5,7 +5,7 @@ use mathlib.Core.Bool.{Bool}
 use Prim.Native.Nat.{ℕ, suc, _+_, _-_, _<_, _≤_}
 use native.Mathlib.Omega.{arith}
 use native.Mathlib.Numerals.{add-one}
-use lib.ListN.{length, take, drop, getD, set, List·getD-append}
+use lib.ListN.{length, take, drop, getD, set, List·getD-append, take-append-drop}
 use lib.Seq.{getD-take, length-take-le, take-suc, take-suc-set, take-set-lt, drop-set-lt, append-snoc, set-at, drop-at, take-take, take-append-le}
 use Rattle.rules.specs.declared.Series.{Series}
 use Rattle.rules.specs.declared.Leg.{Leg}
@@ -60,10 +60,12 @@ module _ (legs : List Leg) (n : ℕ) (full : length legs ≡ 16) (fits : n ≤ 1
         rw (finding.step noLeg legs n (omega arith) j h, add-one, reach-cons same x y (drop (suc j) (take n legs)) m em, et, ex, take-set-lt n legs j z h, drop-set-lt (suc j) (take n legs) j z k, take-suc-set legs j z l, ez)
         (λ i. record { tally = sym (noted-append t (pairOf x y m) (q .pairs)) i; leg = q .leg; legs = append-snoc (take j legs) (less y m) (q .legs) i })
 
-    -- past the last leg
-    pub over : (t : PairTally) (x : Leg) (j : ℕ) → j ≡ n → view t (take j legs) (reach same x (drop j (take n legs))) ≡ record { tally = t; leg = x; legs = take n legs }
-    unfolding reach
-    over t x j e = rw (e, finding.over noLeg legs n (omega arith) n (omega arith), append-nil (take n legs))
+    -- the legs from `j` on are met with nothing
+    pub over : (t : PairTally) (x : Leg) (j : ℕ) → j ≤ n → reach same x (drop j (take n legs)) ≡ record { pairs = []; leg = x; legs = drop j (take n legs) }
+        → view t (take j legs) (reach same x (drop j (take n legs))) ≡ record { tally = t; leg = x; legs = take n legs }
+    over t x j h e =
+        let all : take j legs ++ drop j (take n legs) ≡ take n legs = rw (← take-take j n legs h) (take-append-drop j (take n legs)) in
+        ap (view t (take j legs)) e ∙ (λ i. record { tally = t; leg = x; legs = all i })
 
 -- the leg reached is put back at its place
 pub put : (legs l : List Leg) (n : ℕ) (x z : Leg) (rest : List Leg) (i : ℕ) → i < n → i < length l → x ≡ z → take n legs ≡ take (i + 1) l ++ rest → take n (set legs i x) ≡ take i l ++ (z ∷ rest)
@@ -84,7 +86,7 @@ module _ (same : Series → Series → Bool) (legs now : List Leg) (n : ℕ) (fu
     f : length (take (i + 1) legs) ≡ i + 1
     f = length-take-le (i + 1) legs (omega arith)
 
-    later : drop (i + 1) (take n now) ≡ behind .legs
+    pub later : drop (i + 1) (take n now) ≡ behind .legs
     later = ap (drop (i + 1)) e ∙ drop-at (take (i + 1) legs) (behind .legs) (i + 1) f
 
     here : getD now i noLeg ≡ getD legs i noLeg

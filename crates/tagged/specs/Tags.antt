@@ -2,15 +2,19 @@
 use mathlib.Core.Path.{_≡_}
 use mathlib.Core.List.{List, [], _∷_, _++_}
 use mathlib.Core.Bool.{Bool, false, cond, not, _&&_, _||_}
-use Prim.Native.Nat.{ℕ, _+_, _/_, _≤_, min}
+use Prim.Native.Nat.{ℕ, _+_, _/_, _≤_, _<_, min}
+use lib.IntN.{ℤ}
 use lib.ListN.{length, take, drop, getD}
 use lib.Dec.{eqb, ltb}
 use Rattle.rules.specs.declared.Series.{Series}
-use Rattle.rules.specs.Lists.{sameBool}
+use Rattle.rules.specs.declared.Leg.{Leg}
+use Rattle.rules.specs.Lists.{All, sameBool}
 use Rattle.rules.specs.Pairing.{Pair, Reached, reach, walk, oneExpiry, oneStrike, isDebit}
+use Rattle.rules.specs.OpenContracts.{openOn, openContracts}
 use Rattle.rules.specs.Order.{noLeg}
-use Rattle.keys.specs.Tags.{isBought, groupOf, legsFrom, legsIn}
+use Rattle.keys.specs.Tags.{isBought, groupOf, seriesAt, legsFrom, legsIn, Tagged, Rising}
 use Rattle.tagged.specs.declared.PairTally.{PairTally}
+use Rattle.tagged.specs.declared.Step.{Step}
 
 -- which series are walked together
 abbrev pub together : Bool → Series → Series → Bool
@@ -28,8 +32,23 @@ debitAt second tx ty = cond (isBought tx) (debitKeys second (tx / 2) (ty / 2)) (
 abbrev pub oneMore : PairTally → Bool → PairTally
 oneMore t d = record { pairs = t .pairs + 1; debit = t .debit || d; credit = t .credit || not d }
 
+-- the tally after a match of `n` contracts: none where `n` is 0
+abbrev pub noteAs : PairTally → Bool → ℕ → PairTally
+noteAs t debit n = cond (eqb n 0) t (oneMore t debit)
+
 unfoldable pub noteAt : PairTally → Bool → ℕ → ℕ → ℕ → PairTally
-noteAt t second tx ty n = cond (eqb n 0) t (oneMore t (debitAt second tx ty))
+noteAt t second tx ty n = noteAs t (debitAt second tx ty) n
+
+-- the tally of so many debits and credits
+abbrev pub counted : ℕ → ℕ → PairTally
+counted debits credits = record { pairs = debits + credits; debit = ltb 0 debits; credit = ltb 0 credits }
+
+abbrev pub tallyOf : Step → PairTally
+tallyOf s = counted (s .debits) (s .credits)
+
+-- the step after a match: one debit or one credit more, and the figure as it is then
+abbrev pub afterMatch : Step → Bool → ℤ → Step
+afterMatch s debit f = record { debits = s .debits + cond debit 1 0; credits = s .credits + cond debit 0 1; group = s .group; figure = f }
 
 -- the tally of no pair, and with further pairs
 abbrev pub none : PairTally
@@ -39,7 +58,43 @@ abbrev pub noted : PairTally → List Pair → PairTally
 noted t [] = t
 noted t (m ∷ ms) = noted (oneMore t (isDebit (m .buy) (m .sell))) ms
 
--- the leg at `i` against those behind it, which are walked before it
+-- ---- what a walk is given
+
+-- legs in the walk's sequence, and counts in their limit
+pub record InSequence (n : ℕ) (tags left : List ℕ) : Type 0 where
+  pub valid : Tagged n tags
+  pub rising : Rising n tags
+  pub full : length left ≡ 16
+  pub counts : All (λ s. s ≤ 10000) (take n left)
+
+-- ---- what a leg that is reached finds
+
+-- the legs from `i` on: latest walked first, they are walked before those that stand before `i`
+abbrev pub legsFromOn : ℕ → List ℕ → List ℕ → ℕ → Bool → ℕ → List Leg
+legsFromOn root tags left n second i = drop i (legsIn root second n tags left)
+
+-- the series of the leg at `i`
+abbrev pub seriesIn : List ℕ → Bool → ℕ → Series
+seriesIn tags second i = seriesAt second (getD tags i 0 / 2)
+
+-- S-3's promise: the figure is the sum of the open contracts, bought less sold, of the legs from `from` on in the group of the leg at `i`
+abbrev pub Counts : List ℕ → List ℕ → ℕ → Bool → ℕ → ℕ → ℤ → Type 0
+Counts tags left n second i from f = (root : ℕ) → f ≡ openContracts (together second) (seriesIn tags second i) (legsFromOn root tags left n second from)
+
+-- what is open in the group of the leg at `i`, of those behind it, is of one side
+abbrev pub OneSideOpen : List ℕ → List ℕ → ℕ → Bool → ℕ → Type 0
+OneSideOpen tags left n second i =
+    (root : ℕ) (side : Bool) → let opened : Bool → ℕ = λ b. openOn (together second) b (seriesIn tags second i) (legsFromOn root tags left n second (i + 1)) in
+    0 < opened side → opened (not side) ≡ 0
+
+-- a step after the leg at `i`: nothing is open before the first
+pub record Stands (tags left : List ℕ) (n : ℕ) (second : Bool) (i : ℕ) (s : Step) : Type 0 where
+  pub figure : Counts tags left n second i i (s .figure)
+  pub group : i < n → s .group ≡ groupOf (getD tags i 0)
+
+-- ---- what it leaves
+
+-- the leg at `i` against those behind it
 abbrev pub reached : ℕ → List ℕ → List ℕ → ℕ → ℕ → Bool → Reached
 reached root tags left i n second =
     let legs = legsFrom root second tags left in reach (together second) (getD legs i noLeg) (drop (i + 1) (take n legs))
@@ -48,10 +103,10 @@ pub record Reaches (tags left after : List ℕ) (i n : ℕ) (second : Bool) (t r
   pub legs : (root : ℕ) → let q = reached root tags left i n second in legsIn root second n tags after ≡ legsIn root second i tags left ++ (q .leg ∷ q .legs)
   pub tally : (root : ℕ) → r ≡ noted t (reached root tags left i n second .pairs)
   pub few : r .pairs ≤ t .pairs + 16
-  pub full : length after ≡ 16
+  pub sequence : InSequence n tags after
 
 -- the definition's walk: what is left, and the tally of the pairs
 pub record Walks (tags left after : List ℕ) (n : ℕ) (second : Bool) (r : PairTally) : Type 0 where
   pub legs : (root : ℕ) → legsIn root second n tags after ≡ walk (together second) (legsIn root second n tags left) .legs
   pub tally : (root : ℕ) → r ≡ noted none (walk (together second) (legsIn root second n tags left) .pairs)
-  pub full : length after ≡ 16
+  pub sequence : InSequence n tags after

@@ -7,3 +7,11 @@ pub struct PairTally {
     pub debit: bool,
     pub credit: bool,
 }
+
+// What is known after a leg: the pairs of each class, and of the group being walked the open contracts, bought less sold.
+pub struct Step {
+    pub debits: u64,
+    pub credits: u64,
+    pub group: u64,
+    pub figure: i64,
+}

@@ -1,104 +1,127 @@
-// One walk over legs that are listed latest walked first, each by its tag in the walk's sequence (crate `keys`).
+// One walk over legs that are listed latest walked first, each by its tag in the walk's sequence (crate `keys`). A signed
+// figure says what is open in the group being walked, bought less sold: it leads the search for a match.
 use amounts::pick;
 use amounts::smaller;
 use choice::both;
-use choice::choose;
-use choice::either;
-use choice::negated;
+use figure::adjusted;
+use figure::shows_other;
 use keys::group_of;
 use keys::is_bought;
+use keys::sign_of;
 use tagged::PairTally;
+use tagged::Step;
 ghost use mathlib.Core.Path.{_≡_};
-ghost use Prim.Native.Nat.{_+_, _-_, _≤_, _<_};
-ghost use lib.ListN.{length};
-ghost use Rattle.keys.specs.Tags.{Tagged};
-ghost use Rattle.tagged.specs.Tags.{matchedAt, debitKeys, noteAt, Reaches, Walks};
+ghost use mathlib.Core.Bool.{cond};
+ghost use Prim.Native.Nat.{_+_, _≤_, _<_};
+ghost use lib.Dec.{eqb};
+ghost use lib.IntN.{pos};
+ghost use Rattle.tagged.specs.Tags.{tallyOf, afterMatch, InSequence, Counts, OneSideOpen, Stands, Reaches, Walks};
 
-// How many contracts of two legs are matched: those of one group and of two sides.
-fn matched(tx: u64, x: u64, ty: u64, y: u64) -> u64
-    ensures { λ r. ⌜ r ≡ matchedAt tx x ty y ⌝ }
+// The figure with which a leg begins, after one of another group or of its own: in a new group nothing is open.
+fn begun(figure: i64, last: u64, group: u64) -> i64
+    ensures { λ r. ⌜ r ≡ cond (eqb last group) figure (pos 0) ⌝ }
 {
-    pick(
-        both(group_of(tx) == group_of(ty), is_bought(tx) != is_bought(ty)),
-        smaller(x, y),
-        0,
-    )
-}
-
-// Whether a pair of one group is a debit, by the keys of what is bought and sold.
-fn debit_keys(second: bool, buy: u64, sell: u64) -> bool
-    ensures { λ r. ⌜ r ≡ debitKeys second buy sell ⌝ }
-{
-    choose(second, buy < sell, sell < buy)
-}
-
-// The tally after a match of n contracts.
-fn note(t: PairTally, second: bool, tx: u64, ty: u64, n: u64) -> PairTally
-    requires { ⌜ t .pairs < 1000 ⌝ }
-    ensures { λ r. ⌜ (r ≡ noteAt t second tx ty n) × (r .pairs ≤ t .pairs + 1) ⌝ }
-{
-    if n == 0 {
-        return t;
+    if last == group {
+        return figure;
     }
-    let d = choose(
-        is_bought(tx),
-        debit_keys(second, tx / 2, ty / 2),
-        debit_keys(second, ty / 2, tx / 2),
-    );
-    PairTally {
-        pairs: t.pairs + 1,
-        debit: either(t.debit, d),
-        credit: either(t.credit, negated(d)),
+    0
+}
+
+// The step after a match.
+fn noted(s: Step, debit: bool, figure: i64) -> Step
+    requires { ⌜ s .debits + s .credits < 1000 ⌝ }
+    ensures { λ r. ⌜ r ≡ afterMatch s debit figure ⌝ }
+{
+    Step {
+        debits: s.debits + pick(debit, 1, 0),
+        credits: s.credits + pick(debit, 0, 1),
+        group: s.group,
+        figure: figure,
     }
 }
 
-// The leg at i is reached, after all that stand behind it.
-fn reach(
-    tags: &[u64; 16],
-    left: &mut [u64; 16],
-    i: usize,
-    n: usize,
-    second: bool,
-    t: PairTally,
-) -> PairTally
-    requires { ⌜ Tagged n (now tags) × (length (now left) ≡ 16) × (i < n) × (t .pairs < 900) ⌝ }
-    ensures { λ r. ⌜ Reaches (now (tags .entry)) (now (left .entry)) (now (left .exit)) i n second t r ⌝ }
+// The leg at i is matched with those behind it, while it has contracts left and the figure shows the other side: the
+// next of them is then of its group, and what that has open is of the other side. Keys rise, so the leg's own side tells
+// a debit from a credit.
+fn search(tags: &[u64; 16], left: &mut [u64; 16], i: usize, n: usize, second: bool, s: Step) -> Step
+    requires { ⌜ InSequence n (now tags) (now left) × (i < n) × (s .debits + s .credits < 900) ⌝ }
+    requires { ⌜
+        Counts (now tags) (now left) n second i (i + 1) (s .figure) × OneSideOpen (now tags) (now left) n second i
+        ⌝ }
+    ensures { λ r.
+        ⌜ Reaches (now (tags .entry)) (now (left .entry)) (now (left .exit)) i n second (tallyOf s) (tallyOf r) ⌝ }
+    ensures { λ r.
+        ⌜ Counts (now (tags .entry)) (now (left .exit)) n second i (i + 1) (r .figure) × (r .group ≡ s .group) ⌝ }
 {
     let tx = tags[i];
+    let sign = sign_of(tx);
+    let debit = is_bought(tx) == second;
     let mut x = left[i];
-    let mut r = t;
+    let mut r = s;
     let mut j = i + 1;
-    while j < n {
+    while both(x != 0, shows_other(r.figure, sign)) {
         let at = j;
         j += 1;
-        let ty = tags[at];
         let y = left[at];
-        let m = matched(tx, x, ty, y);
-        // Most legs do not meet: nothing is stored for them.
-        if m != 0 {
-            r = note(r, second, tx, ty, m);
+        // A leg of the group that has nothing left is passed.
+        if y != 0 {
+            let m = smaller(x, y);
             left[at] = y - m;
             x -= m;
+            let f = adjusted(r.figure, sign, m);
+            r = noted(r, debit, f);
         }
     }
     left[i] = x;
     r
 }
 
+// The leg at i is reached, after all that stand behind it. What it has left is open from then on.
+fn reach(tags: &[u64; 16], left: &mut [u64; 16], i: usize, n: usize, second: bool, s: Step) -> Step
+    requires { ⌜ InSequence n (now tags) (now left) × (i < n) × (s .debits + s .credits < 900) ⌝ }
+    requires { ⌜ Stands (now tags) (now left) n second (i + 1) s × OneSideOpen (now tags) (now left) n second i ⌝ }
+    ensures { λ r.
+        ⌜ Reaches (now (tags .entry)) (now (left .entry)) (now (left .exit)) i n second (tallyOf s) (tallyOf r) ⌝ }
+    ensures { λ r. ⌜ Stands (now (tags .entry)) (now (left .exit)) n second i r ⌝ }
+{
+    let tx = tags[i];
+    let sign = sign_of(tx);
+    let group = group_of(tx);
+    let f = begun(s.figure, s.group, group);
+    let mut r = Step {
+        debits: s.debits,
+        credits: s.credits,
+        group: group,
+        figure: f,
+    };
+    if shows_other(f, sign) {
+        r = search(tags, left, i, n, second, r);
+    }
+    let rest = left[i];
+    let open = r.figure;
+    r.figure = adjusted(open, sign, rest);
+    r
+}
+
 // The walk over the first n legs: from the last to the first.
 pub fn walk(tags: &[u64; 16], left: &mut [u64; 16], n: usize, second: bool) -> PairTally
-    requires { ⌜ Tagged n (now tags) × (length (now left) ≡ 16) ⌝ }
+    requires { ⌜ InSequence n (now tags) (now left) ⌝ }
     ensures { λ r. ⌜ Walks (now (tags .entry)) (now (left .entry)) (now (left .exit)) n second r ⌝ }
 {
-    let mut t = PairTally {
-        pairs: 0,
-        debit: false,
-        credit: false,
+    let mut s = Step {
+        debits: 0,
+        credits: 0,
+        group: 0,
+        figure: 0,
     };
     let mut i = n;
     while 0 < i {
         i -= 1;
-        t = reach(tags, left, i, n, second, t);
+        s = reach(tags, left, i, n, second, s);
     }
-    t
+    PairTally {
+        pairs: s.debits + s.credits,
+        debit: 0 < s.debits,
+        credit: 0 < s.credits,
+    }
 }

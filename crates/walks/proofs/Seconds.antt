@@ -12,15 +12,16 @@ use Rattle.rules.specs.declared.Leg.{Leg}
 use Rattle.rules.specs.Lists.{All}
 use Rattle.rules.specs.Pairing.{digit, oneStrike, byExpiry, walk}
 use Rattle.rules.specs.Valid.{InRange}
+use Rattle.laws.proofs.Sorting.{all-perm, perm-sym, map-perm, sort-is-perm}
 use Rattle.sorting.specs.Keys.{sortKeys, withPlaces, EachTwo}
-use Rattle.sorting.proofs.Laws.{each-two-map, each-two-with}
+use Rattle.sorting.proofs.Laws.{each-two-map, each-two-both, each-two-with}
 use Rattle.keys.specs.Tags.{packed, keyOf, seriesAt, tagOf, legAt, legsFrom, legsIn, secondTag, Tagged, Arranged}
 use Rattle.keys.proofs.Keys.{side-says}
 use Rattle.arranging.proofs.Zip.{zip-length, zip-take}
 use Rattle.arranging.proofs.Back.{key-tells, tag-half}
-use Rattle.arranging.proofs.Arranging.{arranged-legs, arranged-tagged}
+use Rattle.arranging.proofs.Arranging.{arranged-legs, arranged-tagged, arranged-rising, arranged-sizes}
 use Rattle.tagged.specs.declared.PairTally.{PairTally}
-use Rattle.tagged.specs.Tags.{Walks}
+use Rattle.tagged.specs.Tags.{InSequence, Walks}
 use Rattle.loners.specs.Tallies.{allAlone, Loners}
 use Rattle.walks.specs.Both.{tallied}
 
@@ -59,10 +60,16 @@ legs-say root (t ∷ ts) (n ∷ ns) h k =
       roots = (refl, r .roots);
     }
 
-module _ {n : ℕ} {tags left sorted seconds rest : List ℕ} (tg : Tagged n tags) (l : length left ≡ 16) (apart : EachTwo (λ a b. a / 2 ≡ b / 2 → ⊥) (take n tags))
+module _ {n : ℕ} {tags left sorted seconds rest : List ℕ} (q : InSequence n tags left)
     (order : take n sorted ≡ sortKeys (withPlaces 0 (map secondTag (take n tags))))
     (arranged : Arranged n sorted left seconds rest)
     (root : ℕ) where
+  tg : Tagged n tags
+  tg = q .valid
+
+  apart : EachTwo (λ a b. a / 2 ≡ b / 2 → ⊥) (take n tags)
+  apart = each-two-both (λ a b. a / 2 < b / 2) (λ a b. a / 2 < b / 2) _ (λ a b h k e. absurd (omega arith)) (take n tags) (q .rising) (q .rising)
+
   abbrev ls : List Leg
   ls = legsFrom root false (take n tags) (take n left)
 
@@ -70,10 +77,13 @@ module _ {n : ℕ} {tags left sorted seconds rest : List ℕ} (tg : Tagged n tag
   long = length-take-le n tags (omega (arith, tg .few, tg .full))
 
   as-long : length (take n tags) ≡ length (take n left)
-  as-long = long ∙ sym (length-take-le n left (omega (arith, tg .few)))
+  as-long = long ∙ sym (length-take-le n left (omega (arith, tg .few, q .full)))
 
   many : length ls ≡ n
   many = zip-length (legAt root false) (take n tags) (take n left) as-long ∙ long
+
+  short : length ls ≤ 16
+  short = omega (arith, many, tg .few)
 
   say : Legs root (take n tags) (take n left) ls
   say = legs-say root (take n tags) (take n left) as-long (tg .small)
@@ -88,12 +98,22 @@ module _ {n : ℕ} {tags left sorted seconds rest : List ℕ} (tg : Tagged n tag
   numbers : take n sorted ≡ sortKeys (withPlaces 0 (map (tagOf true) ls))
   numbers = order ∙ ap (λ (ks : List ℕ). sortKeys (withPlaces 0 ks)) (say .seconds)
 
-  pub seconds-tagged : Tagged n seconds
-  seconds-tagged = arranged-tagged true ls (omega (arith, many, tg .few)) (say .ranges) keys-apart n many sorted left seconds rest numbers (say .sizes) arranged
+  counted : All (λ s. s ≤ 10000) (map (λ x. x .size) (byExpiry ls))
+  unfolding byExpiry
+  counted = all-perm (λ s. s ≤ 10000) (perm-sym (map-perm (λ x. x .size) (sort-is-perm _ ls))) (rw (say .sizes) at (q .counts))
+
+  pub seconds-sequence : InSequence n seconds rest
+  seconds-sequence =
+      record {
+        valid = arranged-tagged true ls short (say .ranges) keys-apart n many sorted left seconds rest numbers (say .sizes) arranged;
+        rising = arranged-rising true ls short (say .ranges) keys-apart n many sorted left seconds rest numbers (say .sizes) arranged;
+        full = arranged .fullLeft;
+        counts = rw (arranged-sizes true ls short (say .ranges) keys-apart n many sorted left seconds rest numbers (say .sizes) arranged) counted;
+      }
 
   in-sequence : legsIn root true n seconds rest ≡ byExpiry (legsIn root false n tags left)
   in-sequence =
-      arranged-legs true ls (omega (arith, many, tg .few)) (say .ranges) keys-apart n many sorted left seconds rest numbers (say .sizes) arranged root (say .roots)
+      arranged-legs true ls short (say .ranges) keys-apart n many sorted left seconds rest numbers (say .sizes) arranged root (say .roots)
       ∙ ap byExpiry (sym (zip-take (legAt root false) n tags left))
 
   -- the second walk and its loners

@@ -1,7 +1,7 @@
 -- Each number is its definition's, and the counts are those of the unit legs.
 use borrow.Author.Needs.{needs}
 use lib.ListN.{take}
-use Rattle.classify.proofs.Laws.{legs-units, all-positive, classed}
+use Rattle.classify.proofs.Laws.{legs-units, all-positive, all-within, classed}
 use Rattle.classify.proofs.classify.Statement.{statement}
 use Rattle.classify.proofs.classify.Tie as tie
 
@@ -9,7 +9,7 @@ units-requires : tie.Need-units-requires
 units-requires c κs = let s = c .before .before in let v = s .pre .0 in (v .valid .few, v .full, s .pre .2, all-positive (take (s .args .n) (s .args .left .now)) (v .counts))
 
 both-walks-requires : tie.Need-both-walks-requires
-both-walks-requires c κs = let v = c .before .before .before .before .pre .0 in (v .valid, v .full, v .apart)
+both-walks-requires c κs = let v = c .before .before .before .before .pre .0 in record { valid = v .valid; rising = v .rising; full = v .full; counts = all-within (take (c .before .before .before .before .args .n) (c .before .before .before .before .args .left .now)) (v .counts) }
 
 returns : tie.Need-returns
 returns c =

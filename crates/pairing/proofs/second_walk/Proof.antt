@@ -2,7 +2,7 @@
 use borrow.Author.Needs.{needs}
 use mathlib.Core.Path.{ap, _∙_}
 use Rattle.sorting.specs.Keys.{sortKeys}
-use Rattle.walks.proofs.Seconds.{seconds-tagged, second-tallied}
+use Rattle.walks.proofs.Seconds.{seconds-sequence, second-tallied}
 use Rattle.pairing.proofs.second_walk.Statement.{statement}
 use Rattle.pairing.proofs.second_walk.Tie as tie
 
@@ -12,7 +12,7 @@ walk-requires c κs =
     let o = m .before .before .before in
     let p = o .before .before in
     let s = p .before .before in
-    (seconds-tagged (s .pre .0) (s .pre .1) (s .pre .2) (o .sort .ensures .0 ∙ ap sortKeys (p .second-places .ensures .0)) (m .arrange .ensures) 0, m .arrange .ensures .fullLeft)
+    seconds-sequence (s .pre) (o .sort .ensures .0 ∙ ap sortKeys (p .second-places .ensures .0)) (m .arrange .ensures) 0
 
 returns : tie.Need-returns
 returns c =
@@ -21,7 +21,7 @@ returns c =
     let o = m .before .before .before in
     let p = o .before .before in
     let s = p .before .before in
-    λ root. second-tallied (s .pre .0) (s .pre .1) (s .pre .2) (o .sort .ensures .0 ∙ ap sortKeys (p .second-places .ensures .0)) (m .arrange .ensures) root (w .walk .ensures) (c .loners .ensures)
+    λ root. second-tallied (s .pre) (o .sort .ensures .0 ∙ ap sortKeys (p .second-places .ensures .0)) (m .arrange .ensures) root (w .walk .ensures) (c .loners .ensures)
 
 pub second-walk-spec : {M : Type 1} → statement M
 second-walk-spec =

@@ -1,115 +1,149 @@
--- What the loop still has to meet, after what it has met, gives what the definition gives.
-use mathlib.Core.Path.{_≡_, refl, sym, _∙_}
-use Prim.Native.Nat.{ℕ, _≤_, _-_, _<_, _+_}
-use native.Mathlib.Omega.{arith}
-use lib.ListN.{length, getD, length-set}
-use Rattle.tagged.proofs.Tagging.{matched-small}
-use Rattle.tagged.proofs.Numbered.{tag-at-small, inner, inner-turn, inner-skip, inner-legs, inner-tally}
+-- Where the figure does not show the other side, nothing is matched.
 use borrow.Author.Needs.{needs}
+use mathlib.Core.Path.{_≡_, refl, sym, ap, ap₂, _∙_}
+use mathlib.Core.Logic.{⊎-elim}
+use mathlib.Core.List.{List}
+use mathlib.Core.Bool.{Bool, false, cond, not}
+use Prim.Native.Nat.{ℕ, _≤_, _<_, _+_}
+use native.Mathlib.Omega.{arith}
+use lib.Dec.{eqb}
+use lib.IntN.{ℤ, pos, natAbs, _+ℤ_, _*ℤ_}
+use lib.Signed.{ltZ}
+use lib.ListN.{getD}
+use mir.Syntax.{w64}
+use mir.Val.{toZ, ofZ}
+use Rattle.rules.specs.OpenContracts.{sign, showsOther}
+use Rattle.figure.proofs.Small.{held}
+use Rattle.keys.specs.Tags.{groupOf, isBought}
+use Rattle.tagged.specs.declared.Step.{Step}
+use Rattle.tagged.specs.Tags.{tallyOf, InSequence, seriesIn, Counts, OneSideOpen, Stands, Reaches}
+use Rattle.tagged.proofs.Signs.{sign-small}
+use Rattle.tagged.proofs.Figures.{count-at, figure-fits, begins, closes, unsearched}
 use Rattle.walk.proofs.reach.Statement.{statement}
 use Rattle.walk.proofs.reach.Tie as tie
 
-abbrev Inv-loop : tie.InvT-loop
-Inv-loop tags left₀ i n second tx x₀ r₀ j₀ left x r j =
-    ((root : ℕ) → inner tags n second root left r tx x j ≡ inner tags n second root left₀ r₀ tx x₀ j₀)
-    × (i < j)
-    × (j ≤ n)
-    × (length left ≡ 16)
-    × (r .pairs + i < r₀ .pairs + j)
+-- ---- the figure with which the leg begins
 
-abbrev μ-loop : tie.MeasureT-loop
-μ-loop tags left₀ i n second tx x₀ r₀ j₀ left x r j = n - j
+module _ (c : tie.After-begun) where
+  abbrev start : tie.Start
+  start = c .before .before .before .before .before
 
-loop-holds : tie.Need-loop-holds Inv-loop μ-loop
-loop-holds c = ((λ root. refl), omega arith, omega arith, omega arith, omega arith)
+  abbrev tags : List ℕ
+  tags = start .args .tags .now
 
-sub-left : tie.Need-sub-left Inv-loop μ-loop
-sub-left c =
-    let l = c .before .before .before .before .before .before .loop in
-    let a = c .before .before .before .before .before .before .before .before .before .args in
-    rw (c .before .before .matched .ensures) (matched-small (getD (a .tags .now) (a .i) 0) (l .x) (getD (a .tags .now) (l .j) 0) (getD (l .left) (l .j) 0) .1)
+  abbrev left : List ℕ
+  left = start .args .left .now
 
-sub-x : tie.Need-sub-x Inv-loop μ-loop
-sub-x c =
-    let l = c .before .before .before .before .before .before .loop in
-    let a = c .before .before .before .before .before .before .before .before .before .args in
-    rw (c .before .before .matched .ensures) (matched-small (getD (a .tags .now) (a .i) 0) (l .x) (getD (a .tags .now) (l .j) 0) (getD (l .left) (l .j) 0) .0)
+  abbrev n : ℕ
+  n = start .args .n
 
-loop-again : tie.Need-loop-again Inv-loop μ-loop
-loop-again c =
-    let s = c .before .before .before .before .before .before .before .before .before in
-    let a = s .args in
-    let l = c .before .before .before .before .before .before .loop in
-    let m = c .before .before .matched .result in
-    let full : length (l .left) ≡ 16 = l .inv .3 in
-    let h : l .j < a .n = omega arith in
-    let small = tag-at-small (a .tags .now) (a .n) (s .pre .0) (a .i) (omega arith) in (
-      (λ root.
-          inner-turn (a .tags .now) (a .n) (s .pre .0) (a .second) root (l .left) (l .r) (c .note .result) (getD (a .tags .now) (a .i) 0) (l .x) (l .j) m full small h (c .before .before .matched .ensures) (c .note .ensures .0)
-          ∙ l .inv .0 root),
-      omega arith,
-      omega arith,
-      length-set (l .left) (l .j) (getD (l .left) (l .j) 0 - m) ∙ full,
-      omega arith,
-    )
+  abbrev i : ℕ
+  i = start .args .i
 
-loop-again-2 : tie.Need-loop-again-2 Inv-loop μ-loop
-loop-again-2 c =
-    let s = c .before .before .before .before .before .before .before .before in
-    let a = s .args in
-    let l = c .before .before .before .before .before .loop in
-    let h : l .j < a .n = omega arith in
-    let small = tag-at-small (a .tags .now) (a .n) (s .pre .0) (a .i) (omega arith) in (
-      (λ root.
-          inner-skip (a .tags .now) (a .n) (s .pre .0) (a .second) root (l .left) (l .r) (getD (a .tags .now) (a .i) 0) (l .x) (l .j) (l .inv .3) small h (sym (c .before .matched .ensures) ∙ c .if1 .left)
-          ∙ l .inv .0 root),
-      omega arith,
-      omega arith,
-      l .inv .3,
-      omega arith,
-    )
+  abbrev second : Bool
+  second = start .args .second
 
-returns : tie.Need-returns Inv-loop μ-loop
+  sequence : InSequence n tags left
+  sequence = start .pre .0 .0
+
+  within : i < n
+  within = start .pre .0 .1
+
+  stands : Stands tags left n second (i + 1) (start .args .s)
+  stands = start .pre .1 .0
+
+  counts : Counts tags left n second i (i + 1) (c .begun .result)
+  counts root =
+      let s = start .args .s in
+      let same = held (s .figure) (rw (stands .figure 0) (omega (arith, figure-fits tags left n sequence second 0 (seriesIn tags second (i + 1)) (i + 1)))) in
+      c .begun .ensures
+      ∙ ap₂ (λ (z : ℤ) (g : ℕ). cond (eqb (s .group) g) z (pos 0)) same (c .before .before .group-of .ensures)
+      ∙ begins tags left n sequence second root i s within stands
+
+  read : toZ w64 (ofZ w64 (c .begun .result)) ≡ c .begun .result
+  read = held (c .begun .result) (rw (counts 0) (omega (arith, figure-fits tags left n sequence second 0 (seriesIn tags second i) (i + 1))))
+
+  small : natAbs (c .begun .result) ≤ 1000000
+  small = rw (counts 0) (omega (arith, figure-fits tags left n sequence second 0 (seriesIn tags second i) (i + 1)))
+
+  -- the leg's sign
+  abbrev tx : ℕ
+  tx = getD tags i 0
+
+  sign-read : toZ w64 (ofZ w64 (c .before .before .before .sign-of .result)) ≡ sign (isBought tx)
+  sign-read = let e = c .before .before .before .sign-of .ensures in held (c .before .before .before .sign-of .result) (rw e (omega (arith, sign-small (isBought tx)))) ∙ e
+
+shows-other-requires : tie.Need-shows-other-requires
+shows-other-requires c κs = (rw (read c) (small c), rw (sign-read c) (sign-small (isBought (tx c))))
+
+search-requires : tie.Need-search-requires
+search-requires c κs =
+    let b = c .before .before .before in
+    ((sequence b, within b, start b .pre .0 .2), ((λ root. read b ∙ counts b root), start b .pre .1 .1))
+
+-- ---- searched or not
+
+record Found (b : tie.After-begun) (after : List ℕ) (r : Step) : Type 0 where
+  reaches : Reaches (tags b) (left b) after (i b) (n b) (second b) (tallyOf (start b .args .s)) (tallyOf r)
+  figure : Counts (tags b) after (n b) (second b) (i b) (i b + 1) (r .figure)
+  group : r .group ≡ groupOf (getD (tags b) (i b) 0)
+
+found : (c : tie.Joined1) → Found (c .before .before) (c .if1 .left) (c .if1 .r)
+found c =
+    let b = c .before .before in
+    let g = b .before .before .group-of .ensures in
+    ⊎-elim
+    (λ w. let e = w .2 .ensures in rw (w .3, w .4) (record { reaches = e .0; figure = e .1 .0; group = e .1 .1 ∙ g }))
+    (λ w.
+    let h : showsOther (b .begun .result) (isBought (tx b)) ≡ false = ap₂ (λ (s z : ℤ). ltZ (s *ℤ z) (pos 0)) (sym (sign-read b)) (sym (read b)) ∙ sym (c .before .shows-other .ensures) ∙ w .0 .left in
+    rw (w .1, w .2) (record { reaches = unsearched (tags b) (left b) (n b) (sequence b) (second b) (i b) (within b) (b .begun .result) (counts b) (start b .pre .1 .1) h (tallyOf (start b .args .s)); figure = λ root. read b ∙ counts b root; group = g }))
+    (c .if1 .came)
+
+-- ---- what the leg leaves open
+
+module _ (c : tie.Joined1) where
+  abbrev b : tie.After-begun
+  b = c .before .before
+
+  open-small : natAbs (c .if1 .r .figure) ≤ 160000
+  open-small = rw (found c .figure 0) (figure-fits (tags b) (c .if1 .left) (n b) (found c .reaches .sequence) (second b) 0 (seriesIn (tags b) (second b) (i b)) (i b + 1))
+
+  open-read : toZ w64 (ofZ w64 (c .if1 .r .figure)) ≡ c .if1 .r .figure
+  open-read = held (c .if1 .r .figure) (omega (arith, open-small))
+
+adjusted-requires : tie.Need-adjusted-requires
+adjusted-requires c κs =
+    let j = c .before .before in
+    let s = b j in
+    (rw (open-read j) (omega (arith, open-small j)), rw (sign-read s) (sign-small (isBought (tx s))), omega (arith, count-at (tags s) (j .if1 .left) (n s) (found j .reaches .sequence) (i s) (within s)))
+
+returns : tie.Need-returns
 returns c =
-    let s = c .before .before .before .before in
-    let a = s .args in
-    let l = c .before .loop in
-    let h : a .i < a .n = omega (arith, s .pre) in
-    let last : l .j ≡ a .n = omega arith in
-    record {
-      legs = λ root. inner-legs (a .tags .now) (a .n) (s .pre .0) (a .second) root (a .left .now) (l .left) (s .pre .1) (l .inv .3) (a .t) (l .r) (l .x) (a .i) (l .j) h last (l .inv .0 root);
-      tally = λ root. inner-tally (a .tags .now) (a .n) (s .pre .0) (a .second) root (a .left .now) (l .left) (s .pre .1) (l .inv .3) (a .t) (l .r) (l .x) (a .i) (l .j) h last (l .inv .0 root);
-      few = omega arith;
-      full = length-set (l .left) (a .i) (l .x) ∙ l .inv .3;
-    }
+    let j = c .before .before .before in
+    let s = b j in
+    let f = found j in (
+      f .reaches,
+      record {
+        figure = λ root.
+            c .adjusted .ensures
+            ∙ ap₂ (λ (z t : ℤ). z +ℤ t *ℤ pos (getD (j .if1 .left) (i s) 0)) (open-read j ∙ f .figure root) (sign-read s)
+            ∙ closes (tags s) (j .if1 .left) (n s) (f .reaches .sequence) (second s) root (i s) (within s);
+        group = λ h. f .group;
+      },
+    )
 
 pub reach-spec : {M : Type 1} → statement M
 reach-spec =
     tie.close
     (tie.spec
-    Inv-loop
-    μ-loop
-    (λ c. search needs)
-    (λ c. search needs)
-    (λ c. search needs)
-    (λ c. search needs)
-    (λ c. search needs)
-    loop-holds
-    (λ c. search needs)
-    (λ c. search needs)
-    (λ c. search needs)
     (λ c. search needs)
     (λ c. search needs)
     (λ c κs. tt)
-    (λ c κs. search needs)
-    sub-left
+    (λ c κs. tt)
+    (λ c κs. tt)
+    shows-other-requires
+    search-requires
     (λ c. search needs)
     (λ c. search needs)
-    sub-x
-    (λ c. search needs)
-    loop-again
-    (λ c. search needs)
-    loop-again-2
-    (λ c. search needs)
-    (λ c. search needs)
+    adjusted-requires
     returns)
