@@ -2,7 +2,7 @@
 use mathlib.Core.Path.{_≡_, refl, sym, ap, _∙_}
 use mathlib.Core.List.{List, [], _∷_, map}
 use mathlib.Core.Bool.{Bool, true, false, not, true≢false}
-use Prim.Native.Nat.{ℕ, _/_, _≤_}
+use Prim.Native.Nat.{ℕ, _≤_}
 use lib.ListN.{length, take, getD}
 use lib.Dec.{eqb}
 use borrow.Author.Tests.{eq-eqb, eqb-true}
@@ -19,7 +19,7 @@ use Rattle.laws.proofs.Sequence.{by-strike-is-perm, same-series-turn, other-roo
 use Rattle.sorting.specs.Keys.{sortKeys, withPlaces, EachTwo}
 use Rattle.sorting.proofs.Laws.{each-two-with, each-two-fail}
 use Rattle.keys.specs.Tags.{keyOf, tagOf, legsIn, ValidTags, Arranged}
-use Rattle.arranging.proofs.Back.{key-tells, tag-half}
+use Rattle.arranging.proofs.Back.{key-tells}
 use Rattle.arranging.proofs.Arranging.{arranged-rising, arranged-sizes, arranged-legs, arranged-tagged}
 
 -- ---- another sequence

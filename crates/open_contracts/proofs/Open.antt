@@ -1,5 +1,5 @@
 -- The open contracts of a group among legs.
-use mathlib.Core.Path.{_≡_, refl, sym, ap, _∙_}
+use mathlib.Core.Path.{_≡_, refl, sym, _∙_}
 use mathlib.Core.List.{List, [], _∷_, _++_}
 use mathlib.Core.Bool.{Bool, true, false, cond, not, _&&_, true≢false}
 use Prim.Native.Nat.{ℕ, zero, suc, _+_, _-_, _*_, _≤_, _<_, min}
@@ -12,10 +12,10 @@ use Rattle.rules.specs.declared.Series.{Series}
 use Rattle.rules.specs.declared.Leg.{Leg}
 use Rattle.rules.specs.Lists.{All, sameBool}
 use Rattle.rules.specs.Order.{noLeg}
-use Rattle.rules.specs.Pairing.{pairOf, less, matched, reach, walk}
+use Rattle.rules.specs.Pairing.{pairOf, less, matched, reach}
 use Rattle.rules.specs.OpenContracts.{adjusted, showsOther, openOn, openContracts}
 use Rattle.open_contracts.proofs.Differences.{adjusted-net, shows-net, net-small}
-use Rattle.open_contracts.proofs.Sides.{OneSide, WithEach, EachTwo}
+use Rattle.open_contracts.proofs.Sides.{WithEach, EachTwo}
 
 -- what tells groups: each series is in its own, and two of one group are in one with the same series
 pub record Grouping (same : Series → Series → Bool) : Type 0 where

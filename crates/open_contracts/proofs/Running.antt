@@ -1,9 +1,9 @@
 -- The running figure equals the sum of the open contracts at every step of both walks.
 use mathlib.Core.Path.{_≡_, refl, sym, ap, ap₂, _∙_, subst}
 use mathlib.Core.List.{List, [], _∷_, _++_, append-nil}
-use mathlib.Core.Logic.{_⊎_, inl, inr}
+use mathlib.Core.Logic.{inl, inr}
 use mathlib.Core.Bool.{Bool, true, false, cond, not, _&&_}
-use Prim.Native.Nat.{ℕ, _+_, _-_, _≤_, _<_}
+use Prim.Native.Nat.{ℕ, _+_, _-_, _≤_}
 use native.Mathlib.Omega.{arith}
 use lib.Dec.{eqb}
 use lib.IntN.{ℤ, pos, subℕ}
@@ -11,12 +11,12 @@ use borrow.Author.Tests.{eqb-true, eq-eqb}
 use Rattle.rules.specs.declared.Series.{Series}
 use Rattle.rules.specs.declared.Leg.{Leg}
 use Rattle.rules.specs.Lists.{All, lex, sameBool}
-use Rattle.rules.specs.Pairing.{digit, less, matched, reach, walk, oneExpiry, oneStrike, strikeKey, expiryKey, wholeLeg, byStrike, byExpiry}
-use Rattle.rules.specs.OpenContracts.{adjusted, showsOther, openOn, openContracts, begun, searched, figure, Figure, FigureOf, RunningFigure}
+use Rattle.rules.specs.Pairing.{digit, less, matched, reach, walk, strikeKey, expiryKey, wholeLeg, byStrike, byExpiry}
+use Rattle.rules.specs.OpenContracts.{adjusted, showsOther, openOn, openContracts, begun, searched, figure, Figure, RunningFigure}
 use Rattle.rules.proofs.Tests.{and-both, and-of, same-eq}
 use Rattle.laws.proofs.Sorting.{Step, step, Rises, sort-rises, all-weaken}
 use Rattle.open_contracts.proofs.Differences.{adjusted-net}
-use Rattle.open_contracts.proofs.Sides.{EachTwo, walk-each-two}
+use Rattle.open_contracts.proofs.Sides.{walk-each-two}
 use Rattle.open_contracts.proofs.Open.{Grouping, legOpen, OneSided, Lined, adjusted-open, open-append, open-none, open-alike, taken-own, taken-other, less-few, idle, no-other, one-sided}
 use Rattle.open_contracts.proofs.Searching.{none-other}
 

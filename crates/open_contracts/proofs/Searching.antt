@@ -1,8 +1,8 @@
 -- A leg that is reached searches those walked before it, led by the figure: where the figure shows the other side, the next of them is of its group, and what that has open is of the other side.
-use mathlib.Core.Path.{_≡_, refl, sym, ap, ap₂, _∙_, subst}
+use mathlib.Core.Path.{_≡_, refl, sym, ap, _∙_}
 use mathlib.Core.List.{List, [], _∷_}
 use mathlib.Core.Logic.{_⊎_, inl, inr}
-use mathlib.Core.Bool.{Bool, true, false, cond, not, _&&_, true≢false}
+use mathlib.Core.Bool.{Bool, true, false, cond, not, _&&_}
 use Prim.Native.Nat.{ℕ, zero, suc, _+_, _-_, _≤_, _<_, min}
 use native.Mathlib.Omega.{arith}
 use lib.Dec.{ltb}
@@ -11,7 +11,7 @@ use lib.ListN.{length, getD, set}
 use borrow.Author.Tests.{ltb-true, ltb-false}
 use Rattle.rules.specs.declared.Series.{Series}
 use Rattle.rules.specs.declared.Leg.{Leg}
-use Rattle.rules.specs.Lists.{All, sameBool}
+use Rattle.rules.specs.Lists.{sameBool}
 use Rattle.rules.specs.Order.{noLeg}
 use Rattle.rules.specs.Pairing.{less, matched, reach}
 use Rattle.rules.specs.OpenContracts.{adjusted, showsOther, openOn, openContracts}
@@ -55,6 +55,15 @@ module _ (same : Series → Series → Bool) where
         go : (n : ℕ) → openOn same (not bought) s ys ≡ n → n ≤ openOn same bought s ys → n ≡ 0
         go zero q l = refl
         go (suc n) q l = let z = own-none (omega arith) in absurd (omega arith)
+
+  -- a match with the leg at `k` adjusts the figure
+  pub matched-figure : (x : Leg) (behind : List Leg) (k m : ℕ) → k < length behind → let y = getD behind k noLeg in m ≡ matched same x y
+      → adjusted (openContracts same (x .series) behind) (x .bought) m ≡ openContracts same (x .series) (set behind k (less y m))
+  matched-figure x behind k m l e =
+      let y = getD behind k noLeg in
+      let own = rw (← e) at (taken-own same x y) in
+      let other = rw (← e) at (taken-other same x y) in
+      adjusted-open same (x .series) behind (set behind k (less y m)) (x .bought) m (omega (arith, open-set same (x .bought) (x .series) behind k (less y m) l, open-set same (not (x .bought)) (x .series) behind k (less y m) l, own, other))
 
   -- ---- the search
 
@@ -113,12 +122,12 @@ module _ (same : Series → Series → Bool) where
             go true = e
             go false = refl
 
-    -- and the search goes on behind it
-    pub next : (k m : ℕ) → k < length behind → getD behind k noLeg ≡ y → m ≡ matched same x y → Searching same (less x m) (set behind k (less y m)) rest (adjusted f (x .bought) m)
+    -- the search goes on behind one that is met
+    pub next : (k m : ℕ) (f′ : ℤ) → k < length behind → getD behind k noLeg ≡ y → m ≡ matched same x y → f′ ≡ openContracts same (x .series) (set behind k (less y m)) → Searching same (less x m) (set behind k (less y m)) rest f′
     unfolding openOn
-    next k m l at e =
+    next k m f′ l at e figure =
         record {
-          figure = ap (λ (z : ℤ). adjusted z (x .bought) m) (g .figure) ∙ adjusted-open same (x .series) behind (set behind k (less y m)) (x .bought) m (omega (arith, moved (x .bought), moved (not (x .bought)), own, other));
+          figure = figure;
           oneSided = λ side p. let d = dropped side in let c = dropped (not side) in let z = g .oneSided side (omega arith) in omega arith;
           toCome = λ p. let h = g .toCome (omega arith) in omega (arith, moved (not (x .bought)), other, rw (← e) at (all-taken same x y (rw e at p)));
           within = λ side. omega (arith, moved side, g .within side);
@@ -129,9 +138,6 @@ module _ (same : Series → Series → Bool) where
 
         other : legOpen same (not (x .bought)) (x .series) y ≡ legOpen same (not (x .bought)) (x .series) (less y m) + m
         other = rw e (taken-other same x y)
-
-        own : legOpen same (x .bought) (x .series) y ≡ legOpen same (x .bought) (x .series) (less y m)
-        own = rw e (taken-own same x y)
 
         dropped : (side : Bool) → openOn same side (x .series) (set behind k (less y m)) ≤ openOn same side (x .series) behind
         dropped side = omega (arith, moved side, less-few same side (x .series) y m)

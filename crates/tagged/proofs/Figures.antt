@@ -1,9 +1,9 @@
 -- The figure over tags and open contracts, as the walk's loops take it.
-use mathlib.Core.Path.{_≡_, refl, sym, ap, ap₂, _∙_, subst}
+use mathlib.Core.Path.{_≡_, refl, sym, ap, ap₂, _∙_}
 use mathlib.Core.List.{List, [], _∷_, _++_, zipWith}
 use mathlib.Core.Logic.{inr}
 use mathlib.Core.Bool.{Bool, true, false, cond, not}
-use Prim.Native.Nat.{ℕ, zero, suc, _+_, _-_, _*_, _/_, _<_, _≤_, min}
+use Prim.Native.Nat.{ℕ, zero, suc, _+_, _-_, _/_, _<_, _≤_, min}
 use native.Mathlib.Omega.{arith}
 use lib.Dec.{eqb}
 use lib.IntN.{ℤ, pos, natAbs, subℕ}
@@ -23,8 +23,8 @@ use Rattle.open_contracts.proofs.Searching.{Searching}
 use Rattle.open_contracts.proofs.Running.{parts, closing}
 use Rattle.loops.proofs.Finding as finding
 use Rattle.sorting.specs.Keys.{EachTwo}
-use Rattle.keys.specs.Tags.{groupOf, seriesAt, isBought, legAt, legsFrom, legsIn, Tagged, Rising}
-use Rattle.arranging.proofs.Zip.{zip-length, zip-at, zip-set, zip-take}
+use Rattle.keys.specs.Tags.{groupOf, seriesAt, isBought, legAt, legsFrom, legsIn, Tagged}
+use Rattle.arranging.proofs.Zip.{zip-set, zip-take}
 use Rattle.tagged.specs.declared.PairTally.{PairTally}
 use Rattle.tagged.specs.declared.Step.{Step}
 use Rattle.tagged.specs.Tags.{together, matchedAt, InSequence, legsFromOn, seriesIn, Counts, OneSideOpen, Stands, reached, Reaches}
@@ -240,32 +240,55 @@ module _ (tags left : List ℕ) (n : ℕ) (q : InSequence n tags left) (second :
     pub passed : (x j : ℕ) (f : ℤ) → Searches x j f → j < n → getD left j 0 ≡ 0 → Searches x (j + 1) f
     passed x j f g l e = searching.pass (together second) (rw (next-leg j l) at g) e
 
-    -- the leg at `j` is met
-    pub met : (x j m : ℕ) (f : ℤ) → Searches x j f → i < j → j < n → m ≡ matchedAt (getD tags i 0) x (getD tags j 0) (getD left j 0)
-        → let after = set left j (getD left j 0 - m) in
-        Searching (together second) (legAt root second (getD tags i 0) (x - m)) (legsFromOn root tags after n second (i + 1)) (legsFromOn root tags after n second (j + 1)) (adjusted f (isBought (getD tags i 0)) m)
-    met x j m f g k l em =
-        let tx = getD tags i 0 in
-        let ty = getD tags j 0 in
-        let y = legAt root second ty (getD left j 0) in
-        let z = legAt root second ty (getD left j 0 - m) in
-        let at = j - (i + 1) in
-        let place : i + 1 + at ≡ j = omega arith in
-        let rear = legsFromOn root tags left n second (i + 1) in
-        let long : at < length rear = omega (arith, length-drop (i + 1) (take n legs), length-take-le n legs (omega (arith, full, fits))) in
-        let there : getD rear at noLeg ≡ y =
+  -- ---- the leg at `i` meets the one at `j` with `m` of its `x` contracts
+
+  module _ (i j x m : ℕ) (k : i < j) (l : j < n) (em : m ≡ matchedAt (getD tags i 0) x (getD tags j 0) (getD left j 0)) where
+    abbrev rear : List Leg
+    rear = legsFromOn root tags left n second (i + 1)
+
+    abbrev at : ℕ
+    at = j - (i + 1)
+
+    place : i + 1 + at ≡ j
+    place = omega arith
+
+    long : at < length rear
+    long = omega (arith, length-drop (i + 1) (take n legs), length-take-le n legs (omega (arith, full, fits)))
+
+    there : getD rear at noLeg ≡ legAt root second (getD tags j 0) (getD left j 0)
+    there =
         getD-drop (i + 1) (take n legs) at noLeg
         ∙ ap (λ (u : ℕ). getD (take n legs) u noLeg) place
         ∙ getD-take n legs j noLeg l
-        ∙ leg-is tags n (q .valid) second root left j (q .full) (omega (arith, fits)) in
-        let e = em ∙ sym (matched-tags root second tx ty (tag-at-small tags n (q .valid) i h) (tag-at-small tags n (q .valid) j l) x (getD left j 0)) in
-        let stored : take n (legsFrom root second tags (set left j (getD left j 0 - m))) ≡ set (take n legs) j z =
-        ap (take n) (zip-set (legAt root second) tags left j 0 (getD left j 0 - m) (omega (arith, q .valid .full, fits))) ∙ take-set-lt n legs j z l in
-        let rears : legsFromOn root tags (set left j (getD left j 0 - m)) n second (i + 1) ≡ set rear at z =
-        ap (drop (i + 1)) stored ∙ ap (λ (u : ℕ). drop (i + 1) (set (take n legs) u z)) (sym place) ∙ drop-set-add (i + 1) (take n legs) at z in
-        let rests : legsFromOn root tags (set left j (getD left j 0 - m)) n second (j + 1) ≡ legsFromOn root tags left n second (j + 1) =
-        ap (drop (j + 1)) stored ∙ drop-set-lt (j + 1) (take n legs) j z (omega arith) in
-        rw (rears, rests) (searching.next (together second) (rw (next-leg j l) at g) at m long there e)
+        ∙ leg-is tags n (q .valid) second root left j (q .full) (omega (arith, fits))
+
+    abbrev after : List ℕ
+    after = set left j (getD left j 0 - m)
+
+    abbrev z : Leg
+    z = legAt root second (getD tags j 0) (getD left j 0 - m)
+
+    stored : take n (legsFrom root second tags after) ≡ set (take n legs) j z
+    stored = ap (take n) (zip-set (legAt root second) tags left j 0 (getD left j 0 - m) (omega (arith, q .valid .full, fits))) ∙ take-set-lt n legs j z l
+
+    rears : legsFromOn root tags after n second (i + 1) ≡ set rear at z
+    rears = ap (drop (i + 1)) stored ∙ ap (λ (u : ℕ). drop (i + 1) (set (take n legs) u z)) (sym place) ∙ drop-set-add (i + 1) (take n legs) at z
+
+    rests : legsFromOn root tags after n second (j + 1) ≡ legsFromOn root tags left n second (j + 1)
+    rests = ap (drop (j + 1)) stored ∙ drop-set-lt (j + 1) (take n legs) j z (omega arith)
+
+    as-legs : m ≡ matched (together second) (legAt root second (getD tags i 0) x) (legAt root second (getD tags j 0) (getD left j 0))
+    as-legs = em ∙ sym (matched-tags root second (getD tags i 0) (getD tags j 0) (tag-at-small tags n (q .valid) i (omega arith)) (tag-at-small tags n (q .valid) j l) x (getD left j 0))
+
+    pub met-figure : adjusted (openContracts (together second) (seriesIn tags second i) rear) (isBought (getD tags i 0)) m ≡ openContracts (together second) (seriesIn tags second i) (legsFromOn root tags after n second (i + 1))
+    met-figure =
+        searching.matched-figure (together second) (legAt root second (getD tags i 0) x) rear at m long (rw there as-legs)
+        ∙ ap (openContracts (together second) (seriesIn tags second i)) (ap (λ (w : Leg). set rear at (less w m)) there ∙ sym rears)
+
+    pub met : (f f′ : ℤ) → Searching (together second) (legAt root second (getD tags i 0) x) rear (legsFromOn root tags left n second j) f
+        → f′ ≡ openContracts (together second) (seriesIn tags second i) (legsFromOn root tags after n second (i + 1))
+        → Searching (together second) (legAt root second (getD tags i 0) (x - m)) (legsFromOn root tags after n second (i + 1)) (legsFromOn root tags after n second (j + 1)) f′
+    met f f′ g e = rw (rears, rests) (searching.next (together second) (rw (next-leg j l) at g) at m f′ long there as-legs (rw rears at e))
 
 -- the figure does not show the other side: the leg at `i` meets nothing
 module _ (tags left : List ℕ) (n : ℕ) (q : InSequence n tags left) (second : Bool) (i : ℕ) (h : i < n) (f : ℤ) (counts : Counts tags left n second i (i + 1) f) (one : OneSideOpen tags left n second i)

@@ -126,6 +126,15 @@ note-rising t second tx ty n h = ap (λ (d : Bool). noteAs t d n) (go (isBought 
     go false true = sym (le-ltb (ty / 2) (tx / 2) (omega arith))
     go false false = sym (lt-ltb (tx / 2) (ty / 2) h)
 
+-- at most one pair more
+pub note-few : (t : PairTally) (second : Bool) (tx ty n : ℕ) → noteAt t second tx ty n .pairs ≤ t .pairs + 1
+unfolding noteAt
+note-few t second tx ty n = go (eqb n 0)
+  where
+    go : (b : Bool) → cond b t (oneMore t (debitAt second tx ty)) .pairs ≤ t .pairs + 1
+    go true = omega arith
+    go false = omega arith
+
 -- one pair more is one debit or one credit more
 pub counted-more : (debits credits : ℕ) (d : Bool) → counted (debits + cond d 1 0) (credits + cond d 0 1) ≡ oneMore (counted debits credits) d
 counted-more debits credits true = λ i. record { pairs = sum i; debit = (lt-ltb 0 (debits + 1) (omega arith) ∙ sym (or-true (ltb 0 debits))) i; credit = (ap (ltb 0) (add-zero credits) ∙ sym (or-false (ltb 0 credits))) i }
@@ -145,6 +154,15 @@ matched-group tx x ty y h = go (eqb (groupOf tx) (groupOf ty)) refl (not (sameBo
     go : (a : Bool) → eqb (groupOf tx) (groupOf ty) ≡ a → (b : Bool) → 0 < cond (a && b) (min x y) 0 → groupOf tx ≡ groupOf ty
     go true e b k = eqb-true (groupOf tx) (groupOf ty) e
     go false e b k = absurd (omega arith)
+
+-- what is matched of a leg is matched of as many contracts of it
+pub matched-again : (tx x ty y m : ℕ) → m ≡ matchedAt tx x ty y → matchedAt tx m ty y ≡ m
+unfolding matchedAt
+matched-again tx x ty y m = go (eqb (groupOf tx) (groupOf ty) && not (sameBool (isBought tx) (isBought ty)))
+  where
+    go : (b : Bool) → m ≡ cond b (min x y) 0 → cond b (min m y) 0 ≡ m
+    go true e = omega arith
+    go false e = sym e
 
 pub matched-small : (tx x ty y : ℕ) → (matchedAt tx x ty y ≤ x) × (matchedAt tx x ty y ≤ y)
 unfolding matchedAt

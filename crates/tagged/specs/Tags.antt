@@ -2,9 +2,9 @@
 use mathlib.Core.Path.{_≡_}
 use mathlib.Core.List.{List, [], _∷_, _++_}
 use mathlib.Core.Bool.{Bool, false, cond, not, _&&_, _||_}
-use Prim.Native.Nat.{ℕ, _+_, _/_, _≤_, _<_, min}
+use Prim.Native.Nat.{ℕ, _+_, _-_, _/_, _≤_, _<_, min}
 use lib.IntN.{ℤ}
-use lib.ListN.{length, take, drop, getD}
+use lib.ListN.{length, take, drop, getD, set}
 use lib.Dec.{eqb, ltb}
 use Rattle.rules.specs.declared.Series.{Series}
 use Rattle.rules.specs.declared.Leg.{Leg}
@@ -91,6 +91,13 @@ OneSideOpen tags left n second i =
 pub record Stands (tags left : List ℕ) (n : ℕ) (second : Bool) (i : ℕ) (s : Step) : Type 0 where
   pub figure : Counts tags left n second i i (s .figure)
   pub group : i < n → s .group ≡ groupOf (getD tags i 0)
+
+-- what is left after a match of `m` contracts of the leg at `i` with the one at `at`, and the step: the promise stands after the match as before it
+pub record Meets (tags left after : List ℕ) (i at n : ℕ) (second : Bool) (m : ℕ) (s r : Step) : Type 0 where
+  pub rest : after ≡ set left at (getD left at 0 - m)
+  pub tally : tallyOf r ≡ noteAt (tallyOf s) second (getD tags i 0) (getD tags at 0) m
+  pub figure : Counts tags after n second i (i + 1) (r .figure)
+  pub group : r .group ≡ s .group
 
 -- ---- what it leaves
 

@@ -15,7 +15,8 @@ ghost use mathlib.Core.Bool.{cond};
 ghost use Prim.Native.Nat.{_+_, _≤_, _<_};
 ghost use lib.Dec.{eqb};
 ghost use lib.IntN.{pos};
-ghost use Rattle.tagged.specs.Tags.{tallyOf, afterMatch, InSequence, Counts, OneSideOpen, Stands, Reaches, Walks};
+ghost use lib.ListN.{getD};
+ghost use Rattle.tagged.specs.Tags.{matchedAt, tallyOf, afterMatch, InSequence, Counts, Meets, OneSideOpen, Stands, Reaches, Walks};
 
 // The figure with which a leg begins, after one of another group or of its own: in a new group nothing is open.
 fn begun(figure: i64, last: u64, group: u64) -> i64
@@ -40,9 +41,35 @@ fn noted(s: Step, debit: bool, figure: i64) -> Step
     }
 }
 
+// The leg at i is matched with the one at `at`, m contracts of each. Keys rise, so the leg's own side tells a debit from
+// a credit.
+fn meet(
+    tags: &[u64; 16],
+    left: &mut [u64; 16],
+    i: usize,
+    at: usize,
+    n: usize,
+    second: bool,
+    m: u64,
+    s: Step,
+) -> Step
+    requires { ⌜ InSequence n (now tags) (now left) × (i < at) × (at < n) × (s .debits + s .credits < 1000) ⌝ }
+    requires { ⌜
+        (1 ≤ m)
+        × (matchedAt (getD (now tags) i 0) m (getD (now tags) at 0) (getD (now left) at 0) ≡ m)
+        × Counts (now tags) (now left) n second i (i + 1) (s .figure)
+        ⌝ }
+    ensures { λ r. ⌜ Meets (now (tags .entry)) (now (left .entry)) (now (left .exit)) i at n second m s r ⌝ }
+{
+    let tx = tags[i];
+    let y = left[at];
+    left[at] = y - m;
+    let f = adjusted(s.figure, sign_of(tx), m);
+    noted(s, is_bought(tx) == second, f)
+}
+
 // The leg at i is matched with those behind it, while it has contracts left and the figure shows the other side: the
-// next of them is then of its group, and what that has open is of the other side. Keys rise, so the leg's own side tells
-// a debit from a credit.
+// next of them is then of its group, and what that has open is of the other side.
 fn search(tags: &[u64; 16], left: &mut [u64; 16], i: usize, n: usize, second: bool, s: Step) -> Step
     requires { ⌜ InSequence n (now tags) (now left) × (i < n) × (s .debits + s .credits < 900) ⌝ }
     requires { ⌜
@@ -53,23 +80,18 @@ fn search(tags: &[u64; 16], left: &mut [u64; 16], i: usize, n: usize, second: bo
     ensures { λ r.
         ⌜ Counts (now (tags .entry)) (now (left .exit)) n second i (i + 1) (r .figure) × (r .group ≡ s .group) ⌝ }
 {
-    let tx = tags[i];
-    let sign = sign_of(tx);
-    let debit = is_bought(tx) == second;
+    let sign = sign_of(tags[i]);
     let mut x = left[i];
     let mut r = s;
     let mut j = i + 1;
     while both(x != 0, shows_other(r.figure, sign)) {
         let at = j;
         j += 1;
-        let y = left[at];
+        let m = smaller(x, left[at]);
         // A leg of the group that has nothing left is passed.
-        if y != 0 {
-            let m = smaller(x, y);
-            left[at] = y - m;
+        if m != 0 {
+            r = meet(tags, left, i, at, n, second, m, r);
             x -= m;
-            let f = adjusted(r.figure, sign, m);
-            r = noted(r, debit, f);
         }
     }
     left[i] = x;

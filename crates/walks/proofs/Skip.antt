@@ -3,16 +3,16 @@ use mathlib.Core.Path.{_≡_, refl, sym, _∙_}
 use mathlib.Core.List.{List, [], _∷_}
 use mathlib.Core.Bool.{Bool, true, false, cond, not, _&&_, _||_, true≢false}
 use Prim.Native.Nat.{ℕ, min}
-use native.Mathlib.Nat.{sub-zero}
 use native.Mathlib.Omega.{arith}
 use lib.Dec.{eqb}
 use borrow.Author.Tests.{eqb-true}
 use Rattle.rules.specs.declared.Series.{Series}
 use Rattle.rules.specs.declared.Leg.{Leg}
-use Rattle.rules.specs.Lists.{sameBool, all}
-use Rattle.rules.specs.Pairing.{pairOf, matched, reach, walk, oneStrike, byExpiry}
+use Rattle.rules.specs.Lists.{All, sameBool, all}
+use Rattle.rules.specs.Pairing.{matched, walk, oneStrike, byExpiry}
 use Rattle.rules.proofs.Tests.{and-both, or-false}
 use Rattle.laws.proofs.Sorting.{all-test-perm, sort-is-perm}
+use Rattle.open_contracts.proofs.Open.{idle}
 use Rattle.tagged.specs.Tags.{none}
 use Rattle.loners.specs.Tallies.{allAlone}
 use Rattle.walks.specs.Both.{tallied}
@@ -36,17 +36,15 @@ module _ (same : Series → Series → Bool) (b : Bool) where
       go false true true false m n h k = omega (arith, closed m h)
       go false true false true m n h k = omega (arith, closed n k)
 
-  reach-none : (x : Leg) (ys : List Leg) → onSide b x ≡ true → all (onSide b) ys ≡ true → reach same x ys ≡ record { pairs = []; leg = x; legs = ys }
-  unfolding reach all pairOf
-  reach-none x [] h k = refl
-  reach-none x (y ∷ ys) h k =
-      let s = and-both (onSide b y) _ k in
-      rw (unmatched x y h (s .0), sub-zero (x .size), sub-zero (y .size), reach-none x ys h (s .1))
+  unmatched-each : (x : Leg) (ys : List Leg) → onSide b x ≡ true → all (onSide b) ys ≡ true → All (λ y. matched same x y ≡ 0) ys
+  unfolding all
+  unmatched-each x [] h k = tt
+  unmatched-each x (y ∷ ys) h k = let s = and-both (onSide b y) _ k in (unmatched x y h (s .0), unmatched-each x ys h (s .1))
 
   walk-none : (xs : List Leg) → all (onSide b) xs ≡ true → walk same xs ≡ record { pairs = []; legs = xs }
   unfolding walk all
   walk-none [] h = refl
-  walk-none (x ∷ xs) h = let s = and-both (onSide b x) _ h in rw (walk-none xs (s .1), reach-none x xs (s .0) (s .1))
+  walk-none (x ∷ xs) h = let s = and-both (onSide b x) _ h in rw (walk-none xs (s .1), idle same x xs (unmatched-each x xs (s .0) (s .1)))
 
 module _ (ls : List Leg) where
   sorted-same : (b : Bool) → all (onSide b) (byExpiry ls) ≡ all (onSide b) ls

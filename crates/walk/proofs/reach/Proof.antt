@@ -1,6 +1,6 @@
 -- Where the figure does not show the other side, nothing is matched.
 use borrow.Author.Needs.{needs}
-use mathlib.Core.Path.{_≡_, refl, sym, ap, ap₂, _∙_}
+use mathlib.Core.Path.{_≡_, sym, ap₂, _∙_}
 use mathlib.Core.Logic.{⊎-elim}
 use mathlib.Core.List.{List}
 use mathlib.Core.Bool.{Bool, false, cond, not}
@@ -16,7 +16,7 @@ use Rattle.rules.specs.OpenContracts.{sign, showsOther}
 use Rattle.figure.proofs.Small.{held}
 use Rattle.keys.specs.Tags.{groupOf, isBought}
 use Rattle.tagged.specs.declared.Step.{Step}
-use Rattle.tagged.specs.Tags.{tallyOf, InSequence, seriesIn, Counts, OneSideOpen, Stands, Reaches}
+use Rattle.tagged.specs.Tags.{tallyOf, InSequence, seriesIn, Counts, Stands, Reaches}
 use Rattle.tagged.proofs.Signs.{sign-small}
 use Rattle.tagged.proofs.Figures.{count-at, figure-fits, begins, closes, unsearched}
 use Rattle.walk.proofs.reach.Statement.{statement}

@@ -3,7 +3,6 @@ use borrow.Author.Needs.{needs}
 use mathlib.Core.Path.{_≡_, refl}
 use Prim.Native.Nat.{ℕ, _≤_, _-_, _<_, _+_, _*_}
 use native.Mathlib.Omega.{arith}
-use lib.ListN.{length}
 use Rattle.tagged.specs.Tags.{tallyOf, InSequence, Stands}
 use Rattle.tagged.proofs.Numbered.{Outer, outer-start, outer-turn}
 use Rattle.tagged.proofs.Figures.{stands-first, one-side-walked}
