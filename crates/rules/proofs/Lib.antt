@@ -9,6 +9,7 @@ pub mod Examples
 pub mod Edges
 pub mod Messages
 pub mod Pairs
+pub mod Figures
 pub mod Demand1
 pub mod Demand2
 pub mod Tallying

@@ -22,5 +22,6 @@ pub mod Edges
 pub mod Texts
 pub mod Messages
 pub mod Pairs
+pub mod Figures
 pub mod Demand1
 pub mod Demand2
