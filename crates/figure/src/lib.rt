@@ -1,13 +1,13 @@
 // A signed figure of contracts, bought less sold. A side has a sign: 1 for bought, -1 for sold.
 ghost use mathlib.Core.Path.{_≡_};
 ghost use Prim.Native.Nat.{_≤_};
-ghost use lib.IntN.{pos, natAbs, _+ℤ_, _*ℤ_};
-ghost use lib.Signed.{ltZ};
+ghost use lib.IntN.{natAbs};
+ghost use Rattle.rules.specs.OpenContracts as figures;
 
 // With n contracts more on the side of the sign, or as many fewer on the other.
 pub fn adjusted(figure: i64, sign: i64, n: u64) -> i64
     requires { ⌜ (natAbs figure ≤ 1000000) × (natAbs sign ≤ 1) × (n ≤ 1000000) ⌝ }
-    ensures { λ r. ⌜ r ≡ figure +ℤ sign *ℤ pos n ⌝ }
+    ensures { λ r. ⌜ r ≡ figures.adjusted figure sign n ⌝ }
 {
     figure + sign * n as i64
 }
@@ -15,7 +15,7 @@ pub fn adjusted(figure: i64, sign: i64, n: u64) -> i64
 // Whether contracts of the other side are open.
 pub fn shows_other(figure: i64, sign: i64) -> bool
     requires { ⌜ (natAbs figure ≤ 1000000) × (natAbs sign ≤ 1) ⌝ }
-    ensures { λ r. ⌜ r ≡ ltZ (sign *ℤ figure) (pos 0) ⌝ }
+    ensures { λ r. ⌜ r ≡ figures.showsOther figure sign ⌝ }
 {
     sign * figure < 0
 }

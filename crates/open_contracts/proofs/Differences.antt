@@ -65,12 +65,12 @@ module _ (count : Bool → ℕ) where
   net = subℕ (count true) (count false)
 
   -- adjusted by what one side has more, or the other less
-  pub adjusted-net : (after : Bool → ℕ) (side : Bool) (n : ℕ) → count side + n + after (not side) ≡ after side + count (not side) → adjusted net side n ≡ subℕ (after true) (after false)
+  pub adjusted-net : (after : Bool → ℕ) (side : Bool) (n : ℕ) → count side + n + after (not side) ≡ after side + count (not side) → adjusted net (sign side) n ≡ subℕ (after true) (after false)
   adjusted-net after true n h = ap (λ (z : ℤ). net +ℤ z) (sign-turns true (pos n)) ∙ add-sub (count true) (count false) n ∙ sub-same (count true + n) (count false) (after true) (after false) h
   adjusted-net after false n h = ap (λ (z : ℤ). net +ℤ z) (sign-turns false (pos n)) ∙ take-sub (count true) (count false) n ∙ sub-same (count true) (count false + n) (after true) (after false) (omega arith)
 
   -- which side is more
-  pub shows-net : (side : Bool) → showsOther net side ≡ ltb (count side) (count (not side))
+  pub shows-net : (side : Bool) → showsOther net (sign side) ≡ ltb (count side) (count (not side))
   shows-net true = ap (λ (z : ℤ). ltZ z (pos 0)) (sign-turns true net) ∙ below (count true) (count false)
   shows-net false = ap (λ (z : ℤ). ltZ z (pos 0)) (sign-turns false net ∙ sub-neg (count true) (count false)) ∙ below (count false) (count true)
 

@@ -13,7 +13,7 @@ use Rattle.rules.specs.declared.Leg.{Leg}
 use Rattle.rules.specs.Lists.{All, sameBool}
 use Rattle.rules.specs.Order.{noLeg}
 use Rattle.rules.specs.Pairing.{pairOf, less, matched, reach}
-use Rattle.rules.specs.OpenContracts.{adjusted, showsOther, openOn, openContracts}
+use Rattle.rules.specs.OpenContracts.{sign, adjusted, showsOther, openOn, openContracts}
 use Rattle.open_contracts.proofs.Differences.{adjusted-net, shows-net, net-small}
 use Rattle.open_contracts.proofs.Sides.{WithEach, EachTwo}
 
@@ -40,10 +40,10 @@ module _ (same : Series → Series → Bool) where
 
   pub adjusted-open : (s : Series) (ys zs : List Leg) (side : Bool) (n : ℕ)
       → openOn same side s ys + n + openOn same (not side) s zs ≡ openOn same side s zs + openOn same (not side) s ys
-      → adjusted (openContracts same s ys) side n ≡ openContracts same s zs
+      → adjusted (openContracts same s ys) (sign side) n ≡ openContracts same s zs
   adjusted-open s ys zs side n h = adjusted-net (λ b. openOn same b s ys) (λ b. openOn same b s zs) side n h
 
-  pub shows-open : (s : Series) (ls : List Leg) (side : Bool) → showsOther (openContracts same s ls) side ≡ ltb (openOn same side s ls) (openOn same (not side) s ls)
+  pub shows-open : (s : Series) (ls : List Leg) (side : Bool) → showsOther (openContracts same s ls) (sign side) ≡ ltb (openOn same side s ls) (openOn same (not side) s ls)
   shows-open s ls side = shows-net (λ b. openOn same b s ls) side
 
   -- ---- lists

@@ -5,20 +5,20 @@ use mathlib.Core.Logic.{inl, inr}
 use mathlib.Core.Bool.{Bool, true, false, cond, not, _&&_}
 use Prim.Native.Nat.{ℕ, _+_, _-_, _≤_}
 use native.Mathlib.Omega.{arith}
-use lib.Dec.{eqb}
+use lib.Dec.{eqb, ltb}
 use lib.IntN.{ℤ, pos, subℕ}
 use borrow.Author.Tests.{eqb-true, eq-eqb}
 use Rattle.rules.specs.declared.Series.{Series}
 use Rattle.rules.specs.declared.Leg.{Leg}
 use Rattle.rules.specs.Lists.{All, lex, sameBool}
 use Rattle.rules.specs.Pairing.{digit, less, matched, reach, walk, strikeKey, expiryKey, wholeLeg, byStrike, byExpiry}
-use Rattle.rules.specs.OpenContracts.{adjusted, showsOther, openOn, openContracts, begun, searched, figure, Figure, RunningFigure}
+use Rattle.rules.specs.OpenContracts.{sign, adjusted, showsOther, openOn, openContracts, begun, searched, figure, Figure, RunningFigure}
 use Rattle.rules.proofs.Tests.{and-both, and-of, same-eq}
 use Rattle.laws.proofs.Sorting.{Step, step, Rises, sort-rises, all-weaken}
 use Rattle.open_contracts.proofs.Differences.{adjusted-net}
 use Rattle.open_contracts.proofs.Sides.{walk-each-two}
 use Rattle.open_contracts.proofs.Open.{Grouping, legOpen, OneSided, Lined, adjusted-open, open-append, open-none, open-alike, taken-own, taken-other, less-few, idle, no-other, one-sided}
-use Rattle.open_contracts.proofs.Searching.{none-other}
+use Rattle.open_contracts.proofs.Searching.{none-other, shows-exactly}
 
 module _ (same : Series → Series → Bool) where
   -- ---- a walk keeps series and sides, and opens nothing
@@ -54,8 +54,8 @@ module _ (same : Series → Series → Bool) where
       let m = matched same x y in
       let s = x .series in
       let b : Bool → ℕ = λ side. a side + legOpen same side s (less y m) in
-      searched-open (less x m) met (adjusted f (x .bought) m) b
-      (ap (λ (z : ℤ). adjusted z (x .bought) m) e
+      searched-open (less x m) met (adjusted f (sign (x .bought)) m) b
+      (ap (λ (z : ℤ). adjusted z (sign (x .bought)) m) e
       ∙ adjusted-net (λ side. a side + openOn same side s (y ∷ met)) (λ side. b side + openOn same side s met) (x .bought) m (omega (arith, taken-own same x y, taken-other same x y)))
       ∙ ap₂ subℕ (last true) (last false)
     where
@@ -72,7 +72,7 @@ module _ (same : Series → Series → Bool) where
       go true = (refl, refl)
       go false = (refl, refl)
 
-  pub closing : (s : Series) (z : Leg) (ys : List Leg) → same s (z .series) ≡ true → adjusted (openContracts same s ys) (z .bought) (z .size) ≡ openContracts same s (z ∷ ys)
+  pub closing : (s : Series) (z : Leg) (ys : List Leg) → same s (z .series) ≡ true → adjusted (openContracts same s ys) (sign (z .bought)) (z .size) ≡ openContracts same s (z ∷ ys)
   unfolding openOn
   closing s z ys e = let o = own s z e in adjusted-open same s ys (z ∷ ys) (z .bought) (z .size) (omega (arith, o .0, o .1))
 
@@ -107,20 +107,28 @@ module _ (same : Series → Series → Bool) where
           let r = reach same x ys in
           let k = kept x ys in
           let e = at-matches ys [] (sym (append-nil ys)) ∙ ap (openContracts same (x .series)) (append-nil (r .legs)) in
-          ap₂ (λ (z : ℤ) (b : Bool). adjusted z b (r .leg .size)) e (sym (k .1))
+          ap₂ (λ (z : ℤ) (b : Bool). adjusted z (sign b) (r .leg .size)) e (sym (k .1))
           ∙ closing (x .series) (r .leg) (r .legs) (rw (k .0) (grouping .self (x .series)))
 
-      unshown : (met others : List Leg) → walk same xs .legs ≡ met ++ others → showsOther (searched same (start x xs) x met) (x .bought) ≡ false
-          → reach same (reach same x met .leg) others ≡ record { pairs = []; leg = reach same x met .leg; legs = others }
-      unshown met others e h =
+      one-open : (met others : List Leg) → walk same xs .legs ≡ met ++ others → OneSided same (x .series) (reach same x met .legs ++ others)
+      one-open met others e =
           let s = x .series in
           let now = reach same x met .legs in
-          let k = kept x met in
           let few : (side : Bool) → openOn same side s (now ++ others) ≤ openOn same side s (met ++ others) = λ side. omega (arith, open-append same side s met others, open-append same side s now others, reach-few side s x met) in
           let before : OneSided same s (met ++ others) = one-sided same grouping s (met ++ others) (rw e at (walk-each-two same xs)) in
-          let one : OneSided same s (now ++ others) = λ side p. let a = few side in let b = few (not side) in let o = before side (omega arith) in omega arith in
-          let none = none-other same s (x .bought) (now ++ others) (at-matches met others e) one h in
-          idle same (reach same x met .leg) others (no-other same (reach same x met .leg) others (rw (k .0, k .1) (omega (arith, open-append same (not (x .bought)) s now others))))
+          λ side p. let a = few side in let b = few (not side) in let o = before side (omega arith) in omega arith
+
+      shown : (met others : List Leg) → walk same xs .legs ≡ met ++ others → showsOther (searched same (start x xs) x met) (sign (x .bought)) ≡ ltb 0 (openOn same (not (x .bought)) (x .series) (reach same x met .legs ++ others))
+      shown met others e = shows-exactly same (x .series) (x .bought) (reach same x met .legs ++ others) (at-matches met others e) (one-open met others e)
+
+      unshown : (met others : List Leg) → walk same xs .legs ≡ met ++ others → showsOther (searched same (start x xs) x met) (sign (x .bought)) ≡ false
+          → reach same (reach same x met .leg) others ≡ record { pairs = []; leg = reach same x met .leg; legs = others }
+      unshown met others e h =
+          let z = reach same x met .leg in
+          let now = reach same x met .legs in
+          let k = kept x met in
+          let none = none-other same (x .series) (x .bought) (now ++ others) (at-matches met others e) (one-open met others e) h in
+          idle same z others (no-other same z others (rw (k .0, k .1) (omega (arith, open-append same (not (x .bought)) (x .series) now others))))
 
     begins : (x : Leg) (xs : List Leg) → InGroups (x ∷ xs) → start x xs ≡ openContracts same (x .series) (walk same xs .legs)
     unfolding begun walk openOn
@@ -137,7 +145,7 @@ module _ (same : Series → Series → Bool) where
             sym (ap₂ subℕ (open-none same true (x .series) after none) (open-none same false (x .series) after none))
 
     holds : (x : Leg) (xs : List Leg) → InGroups (x ∷ xs) → Figure same x xs
-    holds x xs h = let b = begins x xs h in record { atMatches = at-matches x xs b; afterLeg = after-leg x xs b; unshown = unshown x xs b }
+    holds x xs h = let b = begins x xs h in record { atMatches = at-matches x xs b; afterLeg = after-leg x xs b; shown = shown x xs b; unshown = unshown x xs b }
 
 -- ---- both walks: a group has one type, and one expiry or one strike
 

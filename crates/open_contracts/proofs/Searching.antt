@@ -3,18 +3,18 @@ use mathlib.Core.Path.{_≡_, refl, sym, ap, _∙_}
 use mathlib.Core.List.{List, [], _∷_}
 use mathlib.Core.Logic.{_⊎_, inl, inr}
 use mathlib.Core.Bool.{Bool, true, false, cond, not, _&&_}
-use Prim.Native.Nat.{ℕ, zero, suc, _+_, _-_, _≤_, _<_, min}
+use Prim.Native.Nat.{ℕ, _+_, _-_, _≤_, _<_, min}
 use native.Mathlib.Omega.{arith}
 use lib.Dec.{ltb}
 use lib.IntN.{ℤ}
 use lib.ListN.{length, getD, set}
-use borrow.Author.Tests.{ltb-true, ltb-false}
+use borrow.Author.Tests.{ltb-true, ltb-false, le-ltb}
 use Rattle.rules.specs.declared.Series.{Series}
 use Rattle.rules.specs.declared.Leg.{Leg}
 use Rattle.rules.specs.Lists.{sameBool}
 use Rattle.rules.specs.Order.{noLeg}
 use Rattle.rules.specs.Pairing.{less, matched, reach}
-use Rattle.rules.specs.OpenContracts.{adjusted, showsOther, openOn, openContracts}
+use Rattle.rules.specs.OpenContracts.{sign, adjusted, showsOther, openOn, openContracts}
 use Rattle.open_contracts.proofs.Open.{legOpen, OneSided, Lined, adjusted-open, shows-open, open-set, open-past, taken-other, taken-own, less-few, all-taken, idle, spent, no-other}
 
 -- `x` has met those before `rest`, of all that stand `behind` it
@@ -33,32 +33,34 @@ module _ (same : Series → Series → Bool) where
   -- ---- the figure `f` of what the legs `ys` have open, as a leg of the group of `s` sees it: `bought` is its side
 
   module _ (s : Series) (bought : Bool) (ys : List Leg) {f : ℤ} (e : f ≡ openContracts same s ys) (one : OneSided same s ys) where
-    shown : showsOther f bought ≡ ltb (openOn same bought s ys) (openOn same (not bought) s ys)
-    shown = ap (λ (z : ℤ). showsOther z bought) e ∙ shows-open same s ys bought
+    shown : showsOther f (sign bought) ≡ ltb (openOn same bought s ys) (openOn same (not bought) s ys)
+    shown = ap (λ (z : ℤ). showsOther z (sign bought)) e ∙ shows-open same s ys bought
 
     own-none : 0 < openOn same (not bought) s ys → openOn same bought s ys ≡ 0
     own-none p = ap (λ (b : Bool). openOn same b s ys) (sym (not-not bought)) ∙ one (not bought) p
 
     -- it shows the other side: that is open, and nothing else
-    only-other : showsOther f bought ≡ true → (0 < openOn same (not bought) s ys) × (openOn same bought s ys ≡ 0)
+    only-other : showsOther f (sign bought) ≡ true → (0 < openOn same (not bought) s ys) × (openOn same bought s ys ≡ 0)
     only-other h =
         let l = ltb-true (openOn same bought s ys) (openOn same (not bought) s ys) (sym shown ∙ h) in
         let p : 0 < openOn same (not bought) s ys = omega arith in
         (p, own-none p)
 
-    -- it does not: nothing of the other side is open
-    pub none-other : showsOther f bought ≡ false → openOn same (not bought) s ys ≡ 0
-    none-other h =
-        let l = ltb-false (openOn same bought s ys) (openOn same (not bought) s ys) (sym shown ∙ h) in
-        go (openOn same (not bought) s ys) refl l
+    -- it shows the other side exactly where that is open
+    pub shows-exactly : showsOther f (sign bought) ≡ ltb 0 (openOn same (not bought) s ys)
+    shows-exactly = shown ∙ go (ltb 0 (openOn same (not bought) s ys)) refl
       where
-        go : (n : ℕ) → openOn same (not bought) s ys ≡ n → n ≤ openOn same bought s ys → n ≡ 0
-        go zero q l = refl
-        go (suc n) q l = let z = own-none (omega arith) in absurd (omega arith)
+        go : (t : Bool) → ltb 0 (openOn same (not bought) s ys) ≡ t → ltb (openOn same bought s ys) (openOn same (not bought) s ys) ≡ ltb 0 (openOn same (not bought) s ys)
+        go true q = ap (λ (k : ℕ). ltb k (openOn same (not bought) s ys)) (own-none (ltb-true 0 (openOn same (not bought) s ys) q))
+        go false q = let z = ltb-false 0 (openOn same (not bought) s ys) q in le-ltb (openOn same bought s ys) (openOn same (not bought) s ys) (omega arith) ∙ sym q
+
+    -- it does not: nothing of the other side is open
+    pub none-other : showsOther f (sign bought) ≡ false → openOn same (not bought) s ys ≡ 0
+    none-other h = let l = ltb-false 0 (openOn same (not bought) s ys) (sym shows-exactly ∙ h) in omega arith
 
   -- a match with the leg at `k` adjusts the figure
   pub matched-figure : (x : Leg) (behind : List Leg) (k m : ℕ) → k < length behind → let y = getD behind k noLeg in m ≡ matched same x y
-      → adjusted (openContracts same (x .series) behind) (x .bought) m ≡ openContracts same (x .series) (set behind k (less y m))
+      → adjusted (openContracts same (x .series) behind) (sign (x .bought)) m ≡ openContracts same (x .series) (set behind k (less y m))
   matched-figure x behind k m l e =
       let y = getD behind k noLeg in
       let own = rw (← e) at (taken-own same x y) in
@@ -73,22 +75,22 @@ module _ (same : Series → Series → Bool) where
 
   module _ {x : Leg} {behind rest : List Leg} {f : ℤ} (g : Searching same x behind rest f) where
     -- the search may end
-    pub stop : (x .size ≡ 0) ⊎ (showsOther f (x .bought) ≡ false) → reach same x rest ≡ record { pairs = []; leg = x; legs = rest }
+    pub stop : (x .size ≡ 0) ⊎ (showsOther f (sign (x .bought)) ≡ false) → reach same x rest ≡ record { pairs = []; leg = x; legs = rest }
     stop (inl e) = idle same x rest (spent same x rest e)
     stop (inr e) = idle same x rest (no-other same x rest (omega (arith, none-other (x .series) (x .bought) behind (g .figure) (g .oneSided) e, g .within (not (x .bought)))))
 
     -- what the figure shows is still to be met
-    still : 0 < x .size → showsOther f (x .bought) ≡ true → 0 < openOn same (not (x .bought)) (x .series) rest
+    still : 0 < x .size → showsOther f (sign (x .bought)) ≡ true → 0 < openOn same (not (x .bought)) (x .series) rest
     still p e = omega (arith, only-other (x .series) (x .bought) behind (g .figure) (g .oneSided) e .0, g .toCome p)
 
   -- there is a next leg
-  pub some : {x : Leg} {behind : List Leg} {f : ℤ} → Searching same x behind [] f → 0 < x .size → showsOther f (x .bought) ≡ true → ⊥
+  pub some : {x : Leg} {behind : List Leg} {f : ℤ} → Searching same x behind [] f → 0 < x .size → showsOther f (sign (x .bought)) ≡ true → ⊥
   unfolding openOn
   some g p e = absurd (omega (arith, still g p e))
 
   module _ {x y : Leg} {behind rest : List Leg} {f : ℤ} (g : Searching same x behind (y ∷ rest) f) where
     -- of which as many contracts are matched as the smaller has open
-    pub meets : Lined same (x .series) (y ∷ rest) → 0 < x .size → showsOther f (x .bought) ≡ true → matched same x y ≡ min (x .size) (y .size)
+    pub meets : Lined same (x .series) (y ∷ rest) → 0 < x .size → showsOther f (sign (x .bought)) ≡ true → matched same x y ≡ min (x .size) (y .size)
     unfolding matched openOn
     meets lined p e =
         go (same (x .series) (y .series)) refl (x .bought) (y .bought) (still g p e) (g .within (x .bought)) (only-other (x .series) (x .bought) behind (g .figure) (g .oneSided) e .1)

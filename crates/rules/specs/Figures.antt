@@ -4,10 +4,9 @@ use mathlib.Core.List.{List, [], _∷_}
 use mathlib.Core.Bool.{Bool, true, false}
 use Prim.Native.Nat.{ℕ}
 use lib.IntN.{ℤ, pos, negℤ}
-use Rattle.rules.specs.declared.Series.{Series}
 use Rattle.rules.specs.declared.Leg.{Leg}
 use Rattle.rules.specs.Pairing.{walk, oneExpiry}
-use Rattle.rules.specs.OpenContracts.{showsOther, openContracts, begun, searched, figure}
+use Rattle.rules.specs.OpenContracts.{sign, showsOther, openContracts, begun, searched, figure}
 
 -- a call's leg
 abbrev leg : ℕ → ℕ → Bool → ℕ → Leg
@@ -55,4 +54,4 @@ pub record Figures : Type 0 where
   -- what is open in the group, by the definition of the walk: what June has open does not count
   pub sums : (march (walk oneExpiry third .legs) ≡ pos 3) × (march (walk oneExpiry fourth .legs) ≡ negℤ (pos 2))
   -- 3 bought are another side for what is sold, not for what is bought; where nothing is open there is no other side
-  pub sides : (showsOther (pos 3) false ≡ true) × (showsOther (pos 3) true ≡ false) × (showsOther (negℤ (pos 2)) true ≡ true) × (showsOther (pos 0) true ≡ false) × (showsOther (pos 0) false ≡ false)
+  pub sides : (showsOther (pos 3) (sign false) ≡ true) × (showsOther (pos 3) (sign true) ≡ false) × (showsOther (negℤ (pos 2)) (sign true) ≡ true) × (showsOther (pos 0) (sign true) ≡ false) × (showsOther (pos 0) (sign false) ≡ false)

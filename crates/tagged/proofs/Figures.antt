@@ -14,7 +14,7 @@ use Rattle.rules.specs.declared.Series.{Series}
 use Rattle.rules.specs.declared.Leg.{Leg}
 use Rattle.rules.specs.Lists.{All}
 use Rattle.rules.specs.Pairing.{less, matched, reach}
-use Rattle.rules.specs.OpenContracts.{adjusted, showsOther, openOn, openContracts}
+use Rattle.rules.specs.OpenContracts.{sign, adjusted, showsOther, openOn, openContracts}
 use Rattle.rules.specs.Order.{noLeg}
 use Rattle.open_contracts.proofs.Open.{Grouping, Lined, open-past, open-few, open-alike, figure-small, one-sided}
 use Rattle.open_contracts.proofs.Sides.{walk-each-two}
@@ -212,7 +212,7 @@ module _ (tags left : List ℕ) (n : ℕ) (q : InSequence n tags left) (second :
 
   -- what the leg at `i` has left is open from now on
   pub closes : (i : ℕ) → i < n → let s = seriesIn tags second i in
-      adjusted (openContracts (together second) s (legsFromOn root tags left n second (i + 1))) (isBought (getD tags i 0)) (getD left i 0) ≡ openContracts (together second) s (legsFromOn root tags left n second i)
+      adjusted (openContracts (together second) s (legsFromOn root tags left n second (i + 1))) (sign (isBought (getD tags i 0))) (getD left i 0) ≡ openContracts (together second) s (legsFromOn root tags left n second i)
   closes i h =
       let s = seriesIn tags second i in
       closing (together second) s (legAt root second (getD tags i 0) (getD left i 0)) (legsFromOn root tags left n second (i + 1)) (grouping second .self s)
@@ -224,7 +224,7 @@ module _ (tags left : List ℕ) (n : ℕ) (q : InSequence n tags left) (second :
     abbrev pub Searches : ℕ → ℕ → ℤ → Type 0
     Searches x j f = Searching (together second) (legAt root second (getD tags i 0) x) (legsFromOn root tags left n second (i + 1)) (legsFromOn root tags left n second j) f
 
-    module _ (x j : ℕ) (f : ℤ) (g : Searches x j f) (p : 0 < x) (e : showsOther f (isBought (getD tags i 0)) ≡ true) where
+    module _ (x j : ℕ) (f : ℤ) (g : Searches x j f) (p : 0 < x) (e : showsOther f (sign (isBought (getD tags i 0))) ≡ true) where
       -- there is a leg at `j`
       pub inside : j ≤ n → j < n
       inside l = before j n (λ d. searching.some (together second) (rw (no-leg j (omega arith)) at g) p e) l
@@ -280,7 +280,7 @@ module _ (tags left : List ℕ) (n : ℕ) (q : InSequence n tags left) (second :
     as-legs : m ≡ matched (together second) (legAt root second (getD tags i 0) x) (legAt root second (getD tags j 0) (getD left j 0))
     as-legs = em ∙ sym (matched-tags root second (getD tags i 0) (getD tags j 0) (tag-at-small tags n (q .valid) i (omega arith)) (tag-at-small tags n (q .valid) j l) x (getD left j 0))
 
-    pub met-figure : adjusted (openContracts (together second) (seriesIn tags second i) rear) (isBought (getD tags i 0)) m ≡ openContracts (together second) (seriesIn tags second i) (legsFromOn root tags after n second (i + 1))
+    pub met-figure : adjusted (openContracts (together second) (seriesIn tags second i) rear) (sign (isBought (getD tags i 0))) m ≡ openContracts (together second) (seriesIn tags second i) (legsFromOn root tags after n second (i + 1))
     met-figure =
         searching.matched-figure (together second) (legAt root second (getD tags i 0) x) rear at m long (rw there as-legs)
         ∙ ap (openContracts (together second) (seriesIn tags second i)) (ap (λ (w : Leg). set rear at (less w m)) there ∙ sym rears)
@@ -292,7 +292,7 @@ module _ (tags left : List ℕ) (n : ℕ) (q : InSequence n tags left) (second :
 
 -- the figure does not show the other side: the leg at `i` meets nothing
 module _ (tags left : List ℕ) (n : ℕ) (q : InSequence n tags left) (second : Bool) (i : ℕ) (h : i < n) (f : ℤ) (counts : Counts tags left n second i (i + 1) f) (one : OneSideOpen tags left n second i)
-    (unshown : showsOther f (isBought (getD tags i 0)) ≡ false) where
+    (unshown : showsOther f (sign (isBought (getD tags i 0))) ≡ false) where
   module _ (root : ℕ) where
     x : Leg
     x = legAt root second (getD tags i 0) (getD left i 0)

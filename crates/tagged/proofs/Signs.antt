@@ -10,5 +10,5 @@ pub sign-small : (bought : Bool) → natAbs (sign bought) ≤ 1
 sign-small true = omega arith
 sign-small false = omega arith
 
-pub adjusted-small : (f : ℤ) (bought : Bool) (n : ℕ) → natAbs (adjusted f bought n) ≤ natAbs f + n
+pub adjusted-small : (f : ℤ) (bought : Bool) (n : ℕ) → natAbs (adjusted f (sign bought) n) ≤ natAbs f + n
 adjusted-small f bought n = omega (arith, sum-size f (sign bought *ℤ pos n), sign-size (sign bought) (pos n) (sign-small bought))

@@ -87,7 +87,7 @@ OneSideOpen tags left n second i =
     (root : ℕ) (side : Bool) → let opened : Bool → ℕ = λ b. openOn (together second) b (seriesIn tags second i) (legsFromOn root tags left n second (i + 1)) in
     0 < opened side → opened (not side) ≡ 0
 
--- a step after the leg at `i`: nothing is open before the first
+-- the step after the leg at `i`: S-3's promise for its group. At `n` no leg is walked yet, and the figure is 0.
 pub record Stands (tags left : List ℕ) (n : ℕ) (second : Bool) (i : ℕ) (s : Step) : Type 0 where
   pub figure : Counts tags left n second i i (s .figure)
   pub group : i < n → s .group ≡ groupOf (getD tags i 0)

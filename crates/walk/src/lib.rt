@@ -11,11 +11,13 @@ use keys::sign_of;
 use tagged::PairTally;
 use tagged::Step;
 ghost use mathlib.Core.Path.{_≡_};
-ghost use mathlib.Core.Bool.{cond};
+ghost use mathlib.Core.Bool.{true, cond};
 ghost use Prim.Native.Nat.{_+_, _≤_, _<_};
 ghost use lib.Dec.{eqb};
 ghost use lib.IntN.{pos};
 ghost use lib.ListN.{getD};
+ghost use Rattle.rules.specs.OpenContracts.{sign, showsOther};
+ghost use Rattle.keys.specs.Tags.{isBought};
 ghost use Rattle.tagged.specs.Tags.{matchedAt, tallyOf, afterMatch, InSequence, Counts, Meets, OneSideOpen, Stands, Reaches, Walks};
 
 // The figure with which a leg begins, after one of another group or of its own: in a new group nothing is open.
@@ -29,7 +31,7 @@ fn begun(figure: i64, last: u64, group: u64) -> i64
 }
 
 // The step after a match.
-fn noted(s: Step, debit: bool, figure: i64) -> Step
+fn after_match(s: Step, debit: bool, figure: i64) -> Step
     requires { ⌜ s .debits + s .credits < 1000 ⌝ }
     ensures { λ r. ⌜ r ≡ afterMatch s debit figure ⌝ }
 {
@@ -58,6 +60,7 @@ fn meet(
         (1 ≤ m)
         × (matchedAt (getD (now tags) i 0) m (getD (now tags) at 0) (getD (now left) at 0) ≡ m)
         × Counts (now tags) (now left) n second i (i + 1) (s .figure)
+        × (showsOther (s .figure) (sign (isBought (getD (now tags) i 0))) ≡ true)
         ⌝ }
     ensures { λ r. ⌜ Meets (now (tags .entry)) (now (left .entry)) (now (left .exit)) i at n second m s r ⌝ }
 {
@@ -65,7 +68,7 @@ fn meet(
     let y = left[at];
     left[at] = y - m;
     let f = adjusted(s.figure, sign_of(tx), m);
-    noted(s, is_bought(tx) == second, f)
+    after_match(s, is_bought(tx) == second, f)
 }
 
 // The leg at i is matched with those behind it, while it has contracts left and the figure shows the other side: the
@@ -74,6 +77,7 @@ fn search(tags: &[u64; 16], left: &mut [u64; 16], i: usize, n: usize, second: bo
     requires { ⌜ InSequence n (now tags) (now left) × (i < n) × (s .debits + s .credits < 900) ⌝ }
     requires { ⌜
         Counts (now tags) (now left) n second i (i + 1) (s .figure) × OneSideOpen (now tags) (now left) n second i
+        × (showsOther (s .figure) (sign (isBought (getD (now tags) i 0))) ≡ true)
         ⌝ }
     ensures { λ r.
         ⌜ Reaches (now (tags .entry)) (now (left .entry)) (now (left .exit)) i n second (tallyOf s) (tallyOf r) ⌝ }

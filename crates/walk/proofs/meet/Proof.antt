@@ -3,10 +3,10 @@ use borrow.Author.Needs.{needs}
 use mathlib.Core.Path.{_≡_, refl, sym, ap, ap₂, _∙_}
 use mathlib.Core.List.{List}
 use mathlib.Core.Bool.{Bool}
-use Prim.Native.Nat.{ℕ, _≤_, _-_, _<_, _+_}
+use Prim.Native.Nat.{ℕ, _≤_, _-_, _+_}
 use native.Mathlib.Omega.{arith}
-use lib.IntN.{ℤ, pos, natAbs, _+ℤ_, _*ℤ_}
-use lib.ListN.{getD, set}
+use lib.IntN.{ℤ, natAbs}
+use lib.ListN.{getD}
 use borrow.Author.Tests.{ne-eqb}
 use mir.Syntax.{w64}
 use mir.Val.{toZ, ofZ}
@@ -90,10 +90,10 @@ returns c =
     let s = g .before .before .before in
     let t = s .args .s in
     let debit = sameBool (isBought (tx s)) (second s) in
-    let figure-is : a .adjusted .result ≡ adjusted (t .figure) (isBought (tx s)) (m s) = a .adjusted .ensures ∙ ap₂ (λ (z k : ℤ). z +ℤ k *ℤ pos (m s)) (figure-read s) (sign-read g) in
+    let figure-is : a .adjusted .result ≡ adjusted (t .figure) (sign (isBought (tx s))) (m s) = a .adjusted .ensures ∙ ap₂ (λ (z k : ℤ). adjusted z k (m s)) (figure-read s) (sign-read g) in
     let figure-kept = held (a .adjusted .result) (rw figure-is (omega (arith, adjusted-small (t .figure) (isBought (tx s)) (m s), figure-small s, few-all s))) ∙ figure-is in
     let side = beq-same (c .before .is-bought .result) (second s) ∙ ap (λ (b : Bool). sameBool b (second s)) (c .before .is-bought .ensures) in
-    let r : c .noted .result ≡ afterMatch t debit (adjusted (t .figure) (isBought (tx s)) (m s)) = c .noted .ensures ∙ ap₂ (afterMatch t) side figure-kept in
+    let r : c .after-match .result ≡ afterMatch t debit (adjusted (t .figure) (sign (isBought (tx s))) (m s)) = c .after-match .ensures ∙ ap₂ (afterMatch t) side figure-kept in
     record {
       rest = refl;
       tally =
@@ -103,7 +103,7 @@ returns c =
           ∙ note-rising (tallyOf t) (second s) (tx s) (getD (tags s) (at s) 0) (m s) (rises (tags s) (left s) (n s) (sequence s) (second s) 0 (i s) (at s) (s .pre .0 .1) (s .pre .0 .2));
       figure = λ root.
           ap (λ (z : Step). z .figure) r
-          ∙ ap (λ (z : ℤ). adjusted z (isBought (tx s)) (m s)) (counts s root)
+          ∙ ap (λ (z : ℤ). adjusted z (sign (isBought (tx s))) (m s)) (counts s root)
           ∙ met-figure (tags s) (left s) (n s) (sequence s) (second s) root (i s) (at s) (m s) (m s) (s .pre .0 .1) (s .pre .0 .2) (sym (s .pre .1 .1));
       group = ap (λ (z : Step). z .group) r;
     }

@@ -1,18 +1,17 @@
 -- Where the figure does not show the other side, nothing is matched.
 use borrow.Author.Needs.{needs}
-use mathlib.Core.Path.{_≡_, sym, ap₂, _∙_}
+use mathlib.Core.Path.{ap, _≡_, sym, ap₂, _∙_}
 use mathlib.Core.Logic.{⊎-elim}
 use mathlib.Core.List.{List}
 use mathlib.Core.Bool.{Bool, false, cond, not}
 use Prim.Native.Nat.{ℕ, _≤_, _<_, _+_}
 use native.Mathlib.Omega.{arith}
 use lib.Dec.{eqb}
-use lib.IntN.{ℤ, pos, natAbs, _+ℤ_, _*ℤ_}
-use lib.Signed.{ltZ}
+use lib.IntN.{ℤ, pos, natAbs}
 use lib.ListN.{getD}
 use mir.Syntax.{w64}
 use mir.Val.{toZ, ofZ}
-use Rattle.rules.specs.OpenContracts.{sign, showsOther}
+use Rattle.rules.specs.OpenContracts.{sign, adjusted, showsOther}
 use Rattle.figure.proofs.Small.{held}
 use Rattle.keys.specs.Tags.{groupOf, isBought}
 use Rattle.tagged.specs.declared.Step.{Step}
@@ -79,7 +78,7 @@ shows-other-requires c κs = (rw (read c) (small c), rw (sign-read c) (sign-smal
 search-requires : tie.Need-search-requires
 search-requires c κs =
     let b = c .before .before .before in
-    ((sequence b, within b, start b .pre .0 .2), ((λ root. read b ∙ counts b root), start b .pre .1 .1))
+    ((sequence b, within b, start b .pre .0 .2), ((λ root. read b ∙ counts b root), start b .pre .1 .1, ap (λ (z : ℤ). showsOther z (sign (isBought (tx b)))) (read b) ∙ ap₂ (λ (s z : ℤ). showsOther z s) (sym (sign-read b)) (sym (read b)) ∙ sym (c .before .before .shows-other .ensures) ∙ c .before .if1 .taken))
 
 -- ---- searched or not
 
@@ -95,7 +94,7 @@ found c =
     ⊎-elim
     (λ w. let e = w .2 .ensures in rw (w .3, w .4) (record { reaches = e .0; figure = e .1 .0; group = e .1 .1 ∙ g }))
     (λ w.
-    let h : showsOther (b .begun .result) (isBought (tx b)) ≡ false = ap₂ (λ (s z : ℤ). ltZ (s *ℤ z) (pos 0)) (sym (sign-read b)) (sym (read b)) ∙ sym (c .before .shows-other .ensures) ∙ w .0 .left in
+    let h : showsOther (b .begun .result) (sign (isBought (tx b))) ≡ false = ap₂ (λ (s z : ℤ). showsOther z s) (sym (sign-read b)) (sym (read b)) ∙ sym (c .before .shows-other .ensures) ∙ w .0 .left in
     rw (w .1, w .2) (record { reaches = unsearched (tags b) (left b) (n b) (sequence b) (second b) (i b) (within b) (b .begun .result) (counts b) (start b .pre .1 .1) h (tallyOf (start b .args .s)); figure = λ root. read b ∙ counts b root; group = g }))
     (c .if1 .came)
 
@@ -126,7 +125,7 @@ returns c =
       record {
         figure = λ root.
             c .adjusted .ensures
-            ∙ ap₂ (λ (z t : ℤ). z +ℤ t *ℤ pos (getD (j .if1 .left) (i s) 0)) (open-read j ∙ f .figure root) (sign-read s)
+            ∙ ap₂ (λ (z t : ℤ). adjusted z t (getD (j .if1 .left) (i s) 0)) (open-read j ∙ f .figure root) (sign-read s)
             ∙ closes (tags s) (j .if1 .left) (n s) (f .reaches .sequence) (second s) root (i s) (within s);
         group = λ h. f .group;
       },

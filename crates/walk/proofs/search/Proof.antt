@@ -8,8 +8,7 @@ use Prim.Native.Nat.{ℕ, _≤_, _-_, _<_, _+_, min}
 use native.Mathlib.Nat.{pos-of-ne-zero}
 use native.Mathlib.Omega.{arith}
 use lib.Dec.{eqb}
-use lib.IntN.{ℤ, pos, natAbs, _*ℤ_}
-use lib.Signed.{ltZ}
+use lib.IntN.{ℤ, natAbs}
 use lib.ListN.{getD}
 use borrow.Author.Tests.{eqb-true, eqb-false}
 use mir.Syntax.{w64}
@@ -96,8 +95,8 @@ shows-other-requires : tie.Need-shows-other-requires Inv-loop μ-loop
 shows-other-requires c κs = let g = c .before in (rw (figure-read g) (omega (arith, figure-small g)), rw (sign-read g) (sign-small (isBought (tx g))))
 
 -- what the loop's test says
-tested : (c : tie.After-shows-other Inv-loop μ-loop) → let g = c .before .before in c .shows-other .result ≡ showsOther (g .loop .r .figure) (isBought (tx g))
-tested c = let g = c .before .before in c .shows-other .ensures ∙ ap₂ (λ (s z : ℤ). ltZ (s *ℤ z) (pos 0)) (sign-read g) (figure-read g)
+tested : (c : tie.After-shows-other Inv-loop μ-loop) → let g = c .before .before in c .shows-other .result ≡ showsOther (g .loop .r .figure) (sign (isBought (tx g)))
+tested c = let g = c .before .before in c .shows-other .ensures ∙ ap₂ (λ (s z : ℤ). showsOther z s) (sign-read g) (figure-read g)
 
 -- ---- one turn
 
@@ -117,7 +116,7 @@ module _ (c : tie.Then1 Inv-loop μ-loop) where
   abbrev y : ℕ
   y = getD (head .loop .left) j 0
 
-  tests : (0 < x) × (showsOther (f .figure) (isBought (tx head)) ≡ true)
+  tests : (0 < x) × (showsOther (f .figure) (sign (isBought (tx head))) ≡ true)
   tests =
       let h = and-both (not (eqb x 0)) (c .before .before .shows-other .result) (sym (c .before .both .ensures) ∙ c .if1 .taken) in
       (pos-of-ne-zero (eqb-false x 0 (not-eq (eqb x 0) (h .0))), sym (tested (c .before .before)) ∙ h .1)
@@ -157,7 +156,7 @@ meet-requires c κs =
     let g = head t in
     let l = g .loop in (
       (l .inv .2, l .inv .3, met-within t, omega (arith, l .inv .6, in-array t, start g .pre .0 .2)),
-      (pos-of-ne-zero (c .before .if2 .taken), matched-again (tx g) (x t) (getD (tags g) (j t) 0) (y t) (m b) (matched-is b), λ root. l .inv .1 root .figure),
+      (pos-of-ne-zero (c .before .if2 .taken), matched-again (tx g) (x t) (getD (tags g) (j t) 0) (y t) (m b) (matched-is b), (λ root. l .inv .1 root .figure), tests t .1),
     )
 
 sub-x : tie.Need-sub-x Inv-loop μ-loop
@@ -221,11 +220,11 @@ loop-again-2 c =
 
 -- the leg has nothing left, or the figure shows nothing more of the other side
 ended : (c : tie.Else1 Inv-loop μ-loop) → let g = c .before .before .before .before in
-    (g .loop .x ≡ 0) ⊎ (showsOther (g .loop .r .figure) (isBought (tx g)) ≡ false)
+    (g .loop .x ≡ 0) ⊎ (showsOther (g .loop .r .figure) (sign (isBought (tx g))) ≡ false)
 ended c = let g = c .before .before .before .before in go g (eqb (g .loop .x) 0) refl (sym (c .before .both .ensures) ∙ c .if1 .left)
   where
     go : (g : tie.At-loop Inv-loop μ-loop) (b : Bool) → eqb (c .before .before .before .before .loop .x) 0 ≡ b → not b && c .before .before .shows-other .result ≡ false
-        → (c .before .before .before .before .loop .x ≡ 0) ⊎ (showsOther (c .before .before .before .before .loop .r .figure) (isBought (tx (c .before .before .before .before))) ≡ false)
+        → (c .before .before .before .before .loop .x ≡ 0) ⊎ (showsOther (c .before .before .before .before .loop .r .figure) (sign (isBought (tx (c .before .before .before .before)))) ≡ false)
     go g true e h = inl (eqb-true (c .before .before .before .before .loop .x) 0 e)
     go g false e h = inr (sym (tested (c .before .before)) ∙ h)
 

@@ -4,8 +4,8 @@ use Prim.Native.Nat.{ℕ, _+_, _≤_}
 use native.Mathlib.Omega.{arith}
 use mir.Syntax.{w64}
 use mir.ValLaws.{toZ-ofZ}
-use Rattle.walk.proofs.noted.Statement.{statement}
-use Rattle.walk.proofs.noted.Tie as tie
+use Rattle.walk.proofs.after_match.Statement.{statement}
+use Rattle.walk.proofs.after_match.Tie as tie
 
 one : (b : Bool) → (cond {A = ℕ} b 1 0 ≤ 1) × (cond {A = ℕ} b 0 1 ≤ 1)
 one true = (omega arith, omega arith)
@@ -26,5 +26,5 @@ returns c =
     let f = toZ-ofZ w64 (a .figure) (s .fits .figure) in
     λ i. record { debits = a .s .debits + d i; credits = a .s .credits + k i; group = a .s .group; figure = f i }
 
-pub noted-spec : {M : Type 1} → statement M
-noted-spec = tie.close (tie.spec (λ c κs. tt) add-t5 (λ c κs. tt) add-t7 returns)
+pub after-match-spec : {M : Type 1} → statement M
+after-match-spec = tie.close (tie.spec (λ c κs. tt) add-t5 (λ c κs. tt) add-t7 returns)
