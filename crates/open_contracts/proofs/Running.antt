@@ -11,8 +11,8 @@ use borrow.Author.Tests.{eqb-true, eq-eqb}
 use Rattle.rules.specs.declared.Series.{Series}
 use Rattle.rules.specs.declared.Leg.{Leg}
 use Rattle.rules.specs.Lists.{All, lex, sameBool}
-use Rattle.rules.specs.Pairing.{digit, less, matched, reach, walk, strikeKey, expiryKey, wholeLeg, byStrike, byExpiry}
-use Rattle.rules.specs.OpenContracts.{sign, adjusted, showsOther, openOn, openContracts, begun, searched, figure, Figure, RunningFigure}
+use Rattle.rules.specs.Pairing.{digit, less, matched, reach, walk, oneExpiry, oneStrike, strikeKey, expiryKey, wholeLeg, byStrike, byExpiry}
+use Rattle.rules.specs.OpenContracts.{sign, adjusted, showsOther, openOn, openContracts, begun, searched, figure, Figure, FigureOf, RunningFigure}
 use Rattle.rules.proofs.Tests.{and-both, and-of, same-eq}
 use Rattle.laws.proofs.Sorting.{Step, step, Rises, sort-rises, all-weaken}
 use Rattle.open_contracts.proofs.Differences.{adjusted-net}
@@ -219,11 +219,17 @@ module _ (part : Series → ℕ) where
     every-step : (ls later xs : List Leg) (x : Leg) → Rises key ls → ls ≡ later ++ (x ∷ xs) → Figure together x xs
     every-step ls later xs x r e = holds together parts x xs (in-groups-from together later (x ∷ xs) (rw e at (in-groups ls r)))
 
-pub running-figure : RunningFigure
-unfolding byStrike byExpiry
-running-figure =
+first-figure : FigureOf oneExpiry byStrike
+unfolding byStrike
+first-figure ls later xs x e =
     let strikes : Leg → List ℕ = λ l. cond (l .series .call) (99999999 - l .series .strike .0) (l .series .strike .0) ∷ wholeLeg l in
-    let expiries : Leg → List ℕ = λ l. (99999999 - l .series .expiry) ∷ wholeLeg l in (
-      (λ ls later xs x e. every-step (λ s. s .expiry) strikes (byStrike ls) later xs x (sort-rises (λ l. strikeKey (l .series) ++ wholeLeg l) ls) e),
-      (λ ls later xs x e. every-step (λ s. s .strike .0) expiries (byExpiry ls) later xs x (sort-rises (λ l. expiryKey (l .series) ++ wholeLeg l) ls) e),
-    )
+    every-step (λ s. s .expiry) strikes (byStrike ls) later xs x (sort-rises (λ l. strikeKey (l .series) ++ wholeLeg l) ls) e
+
+second-figure : FigureOf oneStrike byExpiry
+unfolding byExpiry
+second-figure ls later xs x e =
+    let expiries : Leg → List ℕ = λ l. (99999999 - l .series .expiry) ∷ wholeLeg l in
+    every-step (λ s. s .strike .0) expiries (byExpiry ls) later xs x (sort-rises (λ l. expiryKey (l .series) ++ wholeLeg l) ls) e
+
+pub running-figure : RunningFigure
+running-figure = (first-figure, second-figure)
