@@ -1,10 +1,10 @@
 use borrow.Author.Needs.{needs}
-use mathlib.Core.Path.{_≡_, ap, ap₂, _∙_}
+use mathlib.Core.Path.{_≡_, sym, ap, ap₂, _∙_, subst}
 use Prim.Native.Nat.{_≤_}
 use native.Mathlib.Omega.{arith}
 use lib.IntN.{ℤ, pos, natAbs, _+ℤ_, _*ℤ_}
 use mir.Syntax.{w64}
-use mir.Val.{toZ, ofZ}
+use mir.Val.{SFits, toZ, ofZ}
 use mir.ValLaws.{toZ-pos}
 use Rattle.figure.proofs.Small.{fits, held, sum-size, sign-size}
 use Rattle.figure.proofs.adjusted.Statement.{statement}
@@ -25,13 +25,13 @@ module _ (c : tie.Start) where
   sum-small = omega (arith, sum-size (c .args .figure) (c .args .sign *ℤ pos (c .args .n)), product-small, c .pre .0)
 
 mul-result : tie.Need-mul-result
-mul-result c = rw (product c) (fits _ (omega (arith, product-small c)))
+mul-result c = subst (SFits w64) (sym (product c)) (fits (c .args .sign *ℤ pos (c .args .n)) (omega (arith, product-small c)))
 
 add-result : tie.Need-add-result
-add-result c = rw (sum c) (fits _ (sum-small c))
+add-result c = subst (SFits w64) (sym (sum c)) (fits (c .args .figure +ℤ c .args .sign *ℤ pos (c .args .n)) (sum-small c))
 
 returns : tie.Need-returns
-returns c = rw (sum c) (held _ (sum-small c))
+returns c = ap (λ (z : ℤ). toZ w64 (ofZ w64 z)) (sum c) ∙ held (c .args .figure +ℤ c .args .sign *ℤ pos (c .args .n)) (sum-small c)
 
 pub adjusted-spec : {M : Type 1} → statement M
 adjusted-spec = tie.close (tie.spec (λ c. search needs) mul-result add-result returns)

@@ -1,10 +1,10 @@
-use mathlib.Core.Path.{_≡_, ap, ap₂, _∙_}
+use mathlib.Core.Path.{_≡_, sym, ap, ap₂, _∙_, subst}
 use Prim.Native.Nat.{_≤_}
 use native.Mathlib.Omega.{arith}
 use lib.IntN.{ℤ, pos, natAbs, _*ℤ_}
 use lib.Signed.{ltZ}
 use mir.Syntax.{w64}
-use mir.Val.{toZ, ofZ}
+use mir.Val.{SFits, toZ, ofZ}
 use Rattle.figure.proofs.Small.{fits, held, sign-size}
 use Rattle.figure.proofs.shows_other.Statement.{statement}
 use Rattle.figure.proofs.shows_other.Tie as tie
@@ -17,7 +17,7 @@ module _ (c : tie.Start) where
   small = omega (arith, sign-size (c .args .sign) (c .args .figure) (c .pre .1), c .pre .0)
 
 mul-result : tie.Need-mul-result
-mul-result c = rw (product c) (fits _ (small c))
+mul-result c = subst (SFits w64) (sym (product c)) (fits (c .args .sign *ℤ c .args .figure) (small c))
 
 returns : tie.Need-returns
 returns c = ap (λ (z : ℤ). ltZ z (pos 0)) (ap (λ (z : ℤ). toZ w64 (ofZ w64 z)) (product c) ∙ held (c .args .sign *ℤ c .args .figure) (small c))

@@ -21,8 +21,8 @@ use Rattle.tagged.specs.Tags.{oneMore, noteAs, tallyOf, afterMatch, InSequence,
 use Rattle.tagged.proofs.Signs.{sign-small, adjusted-small}
 use Rattle.tagged.proofs.Tagging.{matched-small, note-rising, counted-more}
 use Rattle.tagged.proofs.Figures.{count-at, figure-fits, rises, met-figure}
-use Rattle.walk.proofs.meet.Statement.{statement}
-use Rattle.walk.proofs.meet.Tie as tie
+use Rattle.matching.proofs.meet.Statement.{statement}
+use Rattle.matching.proofs.meet.Tie as tie
 
 -- a match of some contracts is one more
 some-noted : (t : PairTally) (d : Bool) (n : ℕ) → 1 ≤ n → oneMore t d ≡ noteAs t d n

@@ -4,8 +4,8 @@ use Prim.Native.Nat.{ℕ, _+_, _≤_}
 use native.Mathlib.Omega.{arith}
 use mir.Syntax.{w64}
 use mir.ValLaws.{toZ-ofZ}
-use Rattle.walk.proofs.after_match.Statement.{statement}
-use Rattle.walk.proofs.after_match.Tie as tie
+use Rattle.matching.proofs.after_match.Statement.{statement}
+use Rattle.matching.proofs.after_match.Tie as tie
 
 one : (b : Bool) → (cond {A = ℕ} b 1 0 ≤ 1) × (cond {A = ℕ} b 0 1 ≤ 1)
 one true = (omega arith, omega arith)

@@ -2,8 +2,8 @@
 use borrow.Author.Tests.{eq-eqb, ne-eqb}
 use mir.Syntax.{w64}
 use mir.ValLaws.{toZ-ofZ}
-use Rattle.walk.proofs.begun.Statement.{statement}
-use Rattle.walk.proofs.begun.Tie as tie
+use Rattle.figure.proofs.begun.Statement.{statement}
+use Rattle.figure.proofs.begun.Tie as tie
 
 returns : tie.Need-returns
 returns c = let s = c .before in rw (eq-eqb (s .args .last) (s .args .group) (c .if1 .taken)) (toZ-ofZ w64 (s .args .figure) (s .fits .figure))
