@@ -25,8 +25,9 @@ fn after_match(s: Step, debit: bool, figure: i64) -> Step
     }
 }
 
-// The leg at i is matched with the one at `at`, m contracts of each. Keys rise, so the leg's own side tells a debit from
-// a credit.
+// The leg at i is matched with the one at `at`, m contracts of each. No match is made but where the figure shows the
+// other side: the code has no use for that, the contract asks for it. Keys rise, so the leg's own side tells a debit
+// from a credit.
 pub fn meet(
     tags: &[u64; 16],
     left: &mut [u64; 16],
