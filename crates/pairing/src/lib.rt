@@ -75,8 +75,7 @@ fn tally(tags: &[u64; 16], left: &mut [u64; 16], n: usize, european: bool) -> Pa
     joined(pairs, second_walk(tags, left, n))
 }
 
-// The legs are listed latest walked first. The second walk takes what the first left, unless the class
-// is European.
+// The legs are listed latest walked first. The second walk takes what the first left, unless the class is European.
 pub fn both_walks(tags: &[u64; 16], left: &mut [u64; 16], n: usize, european: bool) -> Paired
     requires { ⌜ InSequence n (now tags) (now left) ⌝ }
     ensures { λ r. ⌜ ((root : ℕ) → BothWalks european (legsIn root false n (now (tags .entry)) (now (left .entry))) (r .pairings) (r .class)) ⌝ }
