@@ -2,10 +2,12 @@
 use choice::both;
 use choice::choose;
 use choice::either;
+use choice::negated;
 use keys::is_bought;
 use rules::Price;
 use rules::Settings;
 use rules::Terms;
+use terms::has_shares;
 use terms::is_negative;
 use terms::is_positive;
 ghost use mathlib.Core.Path.{_≡_};
@@ -14,7 +16,7 @@ ghost use mathlib.Core.Bool.{true, false};
 ghost use Prim.Native.Nat.{ℕ, _≤_};
 ghost use lib.ListN.{length, take};
 ghost use Rattle.rules.specs.Lists.{sameBool, all, All};
-ghost use Rattle.rules.specs.Checks.{sizes, isBelow, buyBuy};
+ghost use Rattle.rules.specs.Checks.{sizes, isBelow, sharesOn, buyBuy};
 ghost use Rattle.rules.specs.Valid.{ComplexOrder};
 ghost use Rattle.keys.specs.Tags.{legsIn};
 
@@ -64,6 +66,14 @@ fn is_below(bought: bool, p: Price, n: u64) -> bool
     either(choose(bought, negative, positive), p.size.0 < n)
 }
 
+// The shares, if there are any, are on this side.
+fn shares_on(side: bool, t: Terms) -> bool
+    ensures { λ r. ⌜ r ≡ sharesOn side t ⌝ }
+{
+    let none = negated(has_shares(t));
+    either(none, side == t.shares.bought)
+}
+
 // Check 22. Legs that are all of one side are of the first leg's. No check asks for the legs' root.
 pub fn buy_buy(st: Settings, t: Terms, tags: &[u64; 16], units: &[u64; 16], n: usize) -> bool
     requires { ⌜
@@ -75,8 +85,11 @@ pub fn buy_buy(st: Settings, t: Terms, tags: &[u64; 16], units: &[u64; 16], n: u
     ensures { λ r. ⌜ ((root : ℕ) → r ≡ buyBuy st t (legsIn root false n (now (tags .entry)) (now (units .entry)))) ⌝ }
 {
     let side = is_bought(tags[0]);
-    if both(t.kind == 0, all_on(tags, n, side)) {
-        return is_below(side, t.price, sizes(units, n) * st.increment.0);
+    let shares = shares_on(side, t);
+    let on = both(shares, all_on(tags, n, side));
+    if both(t.kind == 0, on) {
+        let contracts = sizes(units, n);
+        return is_below(side, t.price, contracts * st.increment.0);
     }
     false
 }

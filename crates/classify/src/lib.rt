@@ -5,7 +5,7 @@ use shape::shape_of;
 use unit_counts::units;
 ghost use mathlib.Core.Path.{_≡_};
 ghost use mathlib.Core.Bool.{false};
-ghost use Prim.Native.Nat.{ℕ, _≤_};
+ghost use Prim.Native.Nat.{ℕ};
 ghost use lib.ListN.{length};
 ghost use Rattle.keys.specs.Tags.{legsIn, ValidTags};
 ghost use Rattle.classify.specs.Legs.{IsClassified};
@@ -25,7 +25,7 @@ pub fn classify(
     european: bool,
     counts: &mut [u64; 16],
 ) -> Classified
-    requires { ⌜ ValidTags n (now tags) (now left) × (2 ≤ n) × (length (now counts) ≡ 16) ⌝ }
+    requires { ⌜ ValidTags n (now tags) (now left) × (length (now counts) ≡ 16) ⌝ }
     ensures { λ r.
         ⌜
         ((root : ℕ)

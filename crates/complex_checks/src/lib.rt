@@ -6,9 +6,11 @@ use buy_buy::buy_buy;
 use chain::checked;
 use choice::both;
 use choice::either;
+use choice::negated;
 use rules::Settings;
 use rules::Terms;
 use strikes::maximum_of;
+use terms::has_shares;
 use terms::is_negative;
 use terms::is_positive;
 ghost use mathlib.Core.Path.{_≡_};
@@ -26,7 +28,7 @@ ghost use Rattle.rules.specs.Numbers.{rejection};
 ghost use Rattle.rules.specs.Valid.{ComplexOrder};
 ghost use Rattle.keys.specs.Tags.{legsIn};
 
-// Check 23, of a complex order: only its class and its terms decide.
+// Check 23, of a complex order: only its class and its terms decide. It is not for orders with shares.
 fn debit_credit(t: Terms, class: u64) -> bool
     ensures { λ r. ⌜ ((us : List Leg) → isComplex t us ≡ true → r ≡ debitCredit t us class) ⌝ }
 {
@@ -34,7 +36,8 @@ fn debit_credit(t: Terms, class: u64) -> bool
     let positive = is_positive(t.price);
     let debit = both(t.kind == 0, both(class == 1, negative));
     let credit = both(class == 2, positive);
-    either(debit, credit)
+    let none = negated(has_shares(t));
+    both(none, either(debit, credit))
 }
 
 // A: the percentage of M, raised to the preset minimum, then lowered to the preset maximum.
@@ -56,9 +59,9 @@ fn has_maximum(shape: u64) -> bool
     either(either(shape == 1, shape == 2), shape == 4)
 }
 
-// Check 24. It asks for the unit counts only in the shape.
+// Check 24, which is not for orders with shares. It asks for the unit counts only in the shape.
 fn maximum_value(st: Settings, t: Terms, tags: &[u64; 16], n: usize, shape: u64) -> bool
-    requires { ⌜ (settingsHold st ≡ true) × (2 ≤ n) × (length (now tags) ≡ 16) ⌝ }
+    requires { ⌜ (settingsHold st ≡ true) × (hasMaximum shape ≡ true → 2 ≤ n) × (length (now tags) ≡ 16) ⌝ }
     ensures { λ r.
         ⌜
         ((root : ℕ) (units : List ℕ) → length units ≡ 16
@@ -66,7 +69,8 @@ fn maximum_value(st: Settings, t: Terms, tags: &[u64; 16], n: usize, shape: u64)
         → r ≡ maximumValue st t (legsIn root false n (now (tags .entry)) units))
         ⌝ }
 {
-    if has_maximum(shape) {
+    let none = negated(has_shares(t));
+    if both(none, has_maximum(shape)) {
         let m = maximum_of(tags, n);
         return m + allowance(st, m) < t.price.size.0;
     }
@@ -88,7 +92,6 @@ pub fn rejection(
         × (length (now tags) ≡ 16)
         × (length (now units) ≡ 16)
         × ComplexOrder st t (legsIn 0 false n (now tags) (now units))
-        × (2 ≤ n)
         × (shape ≡ shapeOf (legsIn 0 false n (now tags) (now units)))
         ⌝ }
     ensures { λ r.

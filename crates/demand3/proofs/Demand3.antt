@@ -18,7 +18,7 @@ use Rattle.rules.specs.declared.Settings.{Settings}
 use Rattle.rules.specs.declared.Market.{Market}
 use Rattle.rules.specs.Limits.{within}
 use Rattle.rules.specs.Lists.{All, Perm, all, any}
-use Rattle.rules.specs.Order.{isYes, Lent, lentLegs, recordLegs, priceOf, signedPrice, termsOf, legOf, legsOf, units, netWorth}
+use Rattle.rules.specs.Order.{isYes, Lent, lentLegs, recordLegs, priceOf, signedPrice, signedShares, termsOf, legOf, legsOf, units, netWorth}
 use Rattle.rules.specs.Pairing.{byStrike, bothWalks}
 use Rattle.rules.specs.Class.{classOf}
 use Rattle.demand3.specs.Fair.{Has, Fair}
@@ -127,7 +127,7 @@ module _ (st : Settings) (m : Market) (t : Terms) (ls : List Leg) (big : Sized l
       priced = price-is (t .price) (worth v true us) (worth v false us) (e ∙ net-is)
 
 -- the order check on legs in two sequences
-module _ (st : Settings) (m : Market) (t : Terms) (n : ℕ) (price : ℤ) (priced : signedPrice (t .price) ≡ price) (rs qs : List RawLeg) (p : Perm rs qs) where
+module _ (st : Settings) (m : Market) (t : Terms) (n : ℕ) (price shares : ℤ) (priced : signedPrice (t .price) ≡ price) (rs qs : List RawLeg) (p : Perm rs qs) where
   abbrev ls : List Leg
   ls = legsOf rs
 
@@ -151,13 +151,13 @@ module _ (st : Settings) (m : Market) (t : Terms) (n : ℕ) (price : ℤ) (price
     unfolding judged
     sound e = rw (is-judged h) (not-rejected st m t ls big v fair (priced ∙ e))
 
-  pub both-arrivals : Arrivals st m price ls (checkLegs st m t n rs) (checkLegs st m t n qs)
+  pub both-arrivals : Arrivals st m price shares ls (checkLegs st m t n rs) (checkLegs st m t n qs)
   both-arrivals =
       record {
         same = check-perm st m t n p;
-        debit = debit;
-        credit = credit;
-        sound = λ h v f e. let x = sound h v f e in (x, rw (check-perm st m t n p) at x);
+        debit = λ none. debit;
+        credit = λ none. credit;
+        sound = λ none h v f e. let x = sound h v f e in (x, rw (check-perm st m t n p) at x);
       }
 
 -- the host's integer is what its price stands for
@@ -166,22 +166,22 @@ unfolding priceOf
 signed-back (pos n) = refl
 signed-back (negsuc n) = refl
 
-whole-arrivals : (a : Inputs) (xs ys : List Lent) → All IsWhole xs → Perm xs ys → Arrivals (a .settings) (a .market) (a .price) (orderLegs xs) (arrival a xs) (arrival a ys)
+whole-arrivals : (a : Inputs) (xs ys : List Lent) → All IsWhole xs → Perm xs ys → Arrivals (a .settings) (a .market) (a .price) (a .shares) (orderLegs xs) (arrival a xs) (arrival a ys)
 whole-arrivals a xs ys w p =
-    let t = termsOf (a .price) (a .kind) (a .stop) (a .manual) (a .opening) in
+    let t = termsOf (a .price) (a .kind) (a .stop) (a .manual) (a .opening) (a .shares) in
     rw (
       slices-are (a .settings) (a .market) t xs w,
       slices-are (a .settings) (a .market) t ys (all-perm _ p w),
       ← (length-perm p),
     )
-    (both-arrivals (a .settings) (a .market) t (length xs) (a .price) (signed-back (a .price)) (lentLegs xs) (lentLegs ys) (map-perm _ p))
+    (both-arrivals (a .settings) (a .market) t (length xs) (a .price) (a .shares) (signed-back (a .price)) (lentLegs xs) (lentLegs ys) (map-perm _ p))
 
 record-arrivals : (st : Settings) (m : Market) (o p : Order) → o .terms ≡ p .terms → o .len ≡ p .len → Perm (recordLegs o) (recordLegs p)
-    → Arrivals st m (signedPrice (o .terms .price)) (legsOf (recordLegs o)) (checkOrder st m o) (checkOrder st m p)
+    → Arrivals st m (signedPrice (o .terms .price)) (signedShares (o .terms .shares)) (legsOf (recordLegs o)) (checkOrder st m o) (checkOrder st m p)
 unfolding checkOrder
 record-arrivals st m o p f g q =
-    subst₂ (λ (t : Terms) (n : ℕ). Arrivals st m (signedPrice (o .terms .price)) (legsOf (recordLegs o)) (checkLegs st m (o .terms) (o .len) (recordLegs o)) (checkLegs st m t n (recordLegs p))) f g
-    (both-arrivals st m (o .terms) (o .len) (signedPrice (o .terms .price)) refl (recordLegs o) (recordLegs p) q)
+    subst₂ (λ (t : Terms) (n : ℕ). Arrivals st m (signedPrice (o .terms .price)) (signedShares (o .terms .shares)) (legsOf (recordLegs o)) (checkLegs st m (o .terms) (o .len) (recordLegs o)) (checkLegs st m t n (recordLegs p))) f g
+    (both-arrivals st m (o .terms) (o .len) (signedPrice (o .terms .price)) (signedShares (o .terms .shares)) refl (recordLegs o) (recordLegs p) q)
 
 pub demand3 : Demand3
 demand3 =

@@ -7,7 +7,7 @@ use Prim.Native.Nat.{ℕ, zero, suc, _+_, _-_, _*_, _≤_, _<_}
 use native.Mathlib.Nat.{div-self, mul-le-mul-left}
 use native.Mathlib.Omega.{arith}
 use lib.Dec.{ltb, leb, eqb}
-use lib.IntN.{ℤ, pos, negsuc, negℤ, _-ℤ_}
+use lib.IntN.{pos, negℤ, _-ℤ_}
 use borrow.Author.Tests.{ltb-true, leb-true, leb-false, eqb-true}
 use Rattle.rules.specs.declared.Mills.{Mills}
 use Rattle.rules.specs.declared.Price.{Price}
@@ -17,7 +17,7 @@ use Rattle.rules.specs.declared.Leg.{Leg}
 use Rattle.rules.specs.declared.Settings.{Settings}
 use Rattle.rules.specs.declared.Market.{Market}
 use Rattle.rules.specs.Lists.{All, sameBool, all, every}
-use Rattle.rules.specs.Order.{isYes, isComplex, signedPrice, gcd, gcdWithin, commonDivisor, units}
+use Rattle.rules.specs.Order.{isYes, sizeOf, isBelowZero, signedPrice, gcd, gcdWithin, commonDivisor, units}
 use Rattle.rules.specs.Pairing.{Walked, bothWalks}
 use Rattle.rules.specs.Class.{isVertical, isButterfly, hasOwnClass, isBox, shapeOf, allOf, pairClass, classWith, classOf}
 use Rattle.rules.specs.Checks.{isLimit, isPositive, isNegative, putTest, callTest, simpleBuy, sizes, isBelow, sameSideBelow, buyBuy, debitCredit, maximumOf, allowance, hasMaximum, maximumValue}
@@ -37,45 +37,33 @@ pub record PriceIs (p : Price) (B S : ℕ) : Type 0 where
   pub got : p .received ≡ true → B ≤ S
   pub size : p .size .0 ≡ (B - S) + (S - B)
 
-magnitude : ℤ → ℕ
-magnitude (pos n) = n
-magnitude (negsuc n) = suc n
-
-isBelowZero : ℤ → Bool
-isBelowZero (pos n) = false
-isBelowZero (negsuc n) = true
-
-turned-size : (n : ℕ) → magnitude (negℤ (pos n)) ≡ n
-unfolding magnitude
+turned-size : (n : ℕ) → sizeOf (negℤ (pos n)) ≡ n
 turned-size zero = refl
 turned-size (suc n) = refl
 
 turned-sign : (n : ℕ) → 0 < n → isBelowZero (negℤ (pos n)) ≡ true
-unfolding isBelowZero
 turned-sign zero h = absurd (omega arith)
 turned-sign (suc n) h = refl
 
-difference-size : (B S : ℕ) → magnitude (pos B -ℤ pos S) ≡ (B - S) + (S - B)
-unfolding magnitude
+difference-size : (B S : ℕ) → sizeOf (pos B -ℤ pos S) ≡ (B - S) + (S - B)
 difference-size B S = go (leb S B) refl
   where
-    go : (b : Bool) → leb S B ≡ b → magnitude (pos B -ℤ pos S) ≡ (B - S) + (S - B)
-    go true e = let h = leb-true S B e in ap magnitude (minus-up B S h) ∙ omega arith
-    go false e = let h = leb-false S B e in ap magnitude (minus-down B S (omega arith)) ∙ turned-size (S - B) ∙ omega arith
+    go : (b : Bool) → leb S B ≡ b → sizeOf (pos B -ℤ pos S) ≡ (B - S) + (S - B)
+    go true e = let h = leb-true S B e in ap sizeOf (minus-up B S h) ∙ omega arith
+    go false e = let h = leb-false S B e in ap sizeOf (minus-down B S (omega arith)) ∙ turned-size (S - B) ∙ omega arith
 
 pub price-is : (p : Price) (B S : ℕ) → signedPrice p ≡ pos B -ℤ pos S → PriceIs p B S
-unfolding magnitude isBelowZero
 price-is p B S h = record { paid = paid; got = got; size = size }
   where
     stands : (r : Bool) → p .received ≡ r → signedPrice p ≡ cond r (negℤ (pos (p .size .0))) (pos (p .size .0))
     stands r e = ap (λ (x : Bool). cond x (negℤ (pos (p .size .0))) (pos (p .size .0))) e
 
-    whole : (r : Bool) → p .received ≡ r → magnitude (signedPrice p) ≡ p .size .0
-    whole true e = ap magnitude (stands true e) ∙ turned-size (p .size .0)
-    whole false e = ap magnitude (stands false e)
+    whole : (r : Bool) → p .received ≡ r → sizeOf (signedPrice p) ≡ p .size .0
+    whole true e = ap sizeOf (stands true e) ∙ turned-size (p .size .0)
+    whole false e = ap sizeOf (stands false e)
 
     size : p .size .0 ≡ (B - S) + (S - B)
-    size = sym (whole (p .received) refl) ∙ ap magnitude h ∙ difference-size B S
+    size = sym (whole (p .received) refl) ∙ ap sizeOf h ∙ difference-size B S
 
     paid : p .received ≡ false → S ≤ B
     paid e = go (leb S B) refl
@@ -240,8 +228,8 @@ module _ (st : Settings) (mk : Market) (t : Terms) (legs : List Leg) (v : Series
     where
       side : (s : Bool) → sameSideBelow st t us s ≡ true → ⊥
       side s f =
-          let k = and-both (all (λ u. sameBool s (u .bought)) us) _ f in
-          not-below s us (sizes us * st .increment .0) p (one-side v s us (k .0)) (increments s us h (k .0)) (k .1)
+          let (on, (shares, (below, z))) = passed _ f in
+          not-below s us (sizes us * st .increment .0) p (one-side v s us on) (increments s us h on) below
 
       go : (sameSideBelow st t us true ≡ true) ⊎ (sameSideBelow st t us false ≡ true) → ⊥
       go (inl f) = side true f
@@ -249,7 +237,7 @@ module _ (st : Settings) (mk : Market) (t : Terms) (legs : List Leg) (v : Series
 
   pub sound23 : (us : List Leg) (class : ℕ) → Priced us → (class ≡ 1 → S us ≤ B us) → (class ≡ 2 → B us ≤ S us) → debitCredit t us class ≡ true → ⊥
   unfolding debitCredit
-  sound23 us class p d c e = go (or-either _ _ (and-both (isComplex t us) _ e .1))
+  sound23 us class p d c e = let (complex, (none, (tested, z))) = passed _ e in go (or-either _ _ tested)
     where
       go : (every (isLimit t ∷ eqb class 1 ∷ isNegative (t .price) ∷ []) ≡ true) ⊎ (eqb class 2 && isPositive (t .price) ≡ true) → ⊥
       go (inl f) =
@@ -276,6 +264,6 @@ module _ (st : Settings) (mk : Market) (t : Terms) (legs : List Leg) (v : Series
   pub sound24 : (us : List Leg) → Hs us → Priced us → maximumValue st t us ≡ true → ⊥
   unfolding maximumValue
   sound24 us h p e =
-      let k = and-both (hasMaximum (shapeOf us)) _ e in
-      let w = shape-max us h (k .0) in
-      omega (arith, p .size, ltb-true (maximumOf us + allowance st (maximumOf us)) (t .price .size .0) (k .1), w .0, w .1)
+      let (none, (shape, (over, z))) = passed _ e in
+      let w = shape-max us h shape in
+      omega (arith, p .size, ltb-true (maximumOf us + allowance st (maximumOf us)) (t .price .size .0) over, w .0, w .1)

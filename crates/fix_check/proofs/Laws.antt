@@ -7,6 +7,7 @@ use lib.Dec.{eqb}
 use lib.ListN.{length, take}
 use lib.Seq.{slice}
 use borrow.Author.Tests.{eqb-true, not-true, not-false}
+use lib.IntN.{pos}
 use Rattle.rules.specs.declared.Order.{Order}
 use Rattle.rules.specs.declared.Terms.{Terms}
 use Rattle.rules.specs.Lists.{all, sameNumbers}
@@ -123,7 +124,7 @@ module _ (m : List ℕ) (h : Head) (s : Scan) (found : (h ≡ headOf m) × (s �
       o = orderIn (bodyOf m)
 
       abbrev t : Terms
-      t = termsOf (o .price) (o .kind) (a .stop) (a .manual) (a .opening)
+      t = termsOf (o .price) (o .kind) (a .stop) (a .manual) (a .opening) (pos 0)
 
       fix-said : checkFix a m ≡ checkLegs (a .settings) (a .market) t (length (o .legs)) (o .legs)
       unfolding checkFix
@@ -136,10 +137,10 @@ module _ (m : List ℕ) (h : Head) (s : Scan) (found : (h ≡ headOf m) × (s �
       pub fix-too-many : 16 < s .places .legs → checkFix a m ≡ refused 3
       fix-too-many h = fix-said ∙ too-many-legs (a .settings) (a .market) t (length (o .legs)) (o .legs) (rw many h)
 
-      pub fix-record : (u : Terms) (r : Order) → u ≡ termsOf (priceSaid (slice (s .places .start) (s .places .end) m)) (cond (s .places .market) 1 0) (a .stop) (a .manual) (a .opening)
+      pub fix-record : (u : Terms) (r : Order) → u ≡ termsOf (priceSaid (slice (s .places .start) (s .places .end) m)) (cond (s .places .market) 1 0) (a .stop) (a .manual) (a .opening) (pos 0)
           → Recorded (s .places .legs) (legsSaid (groupsAt m (s .places .groups) (s .places .legs))) u r → checkFix a m ≡ checkOrder (a .settings) (a .market) r
       unfolding checkOrder orderIn
       fix-record u r e k =
           let legs : recordLegs r ≡ o .legs = k .legs ∙ ap legsSaid (order .groups) in
-          let terms : r .terms ≡ t = k .terms ∙ e ∙ (λ i. termsOf (priceSaid (order .price i)) (order .kind i) (a .stop) (a .manual) (a .opening)) in
+          let terms : r .terms ≡ t = k .terms ∙ e ∙ (λ i. termsOf (priceSaid (order .price i)) (order .kind i) (a .stop) (a .manual) (a .opening) (pos 0)) in
           fix-said ∙ sym (rw (legs, k .len ∙ sym many, terms))

@@ -8,22 +8,23 @@ use frame::head_of;
 use groups::is_complete;
 use message_order::order_said;
 use order_check::check_order;
-use rules::Market;
 use rules::OrderAnswer;
-use rules::Settings;
 use rules::Terms;
 use scan::Places;
 use scan::Scan;
 use scan::scan_fields;
 use sums::is_sum;
 use sums::sum_before;
+use terms::shares_of;
 use values::price_said;
 ghost use mathlib.Core.Path.{_≡_};
 ghost use mathlib.Core.Bool.{true, cond};
 ghost use Prim.Native.Nat.{_≤_};
 ghost use lib.ListN.{length};
+ghost use lib.IntN.{pos};
 ghost use lib.Seq.{slice};
 ghost use Rattle.rules.specs.Order.{termsOf};
+ghost use Rattle.rules.specs.Market.{settingsOf, marketOf};
 ghost use Rattle.rules.specs.Fix.{isPrice, priceSaid, messageRefusal, checkFix};
 ghost use Rattle.frame.specs.Frame.{headOf};
 ghost use Rattle.scan.specs.Scanning.{scanned};
@@ -61,21 +62,23 @@ fn message_refusal(message: &[u8], h: Head, s: Scan) -> u64
     if s.formed { 0 } else { 32 }
 }
 
-// The terms of the order that a message says, with the host's flags.
+// The terms of the order that a message says, with the host's flags and no shares.
 fn terms_said(message: &[u8], p: Places, stop: u64, manual: u64, opening: u64) -> Terms
     requires { ⌜ (p .start ≤ p .end) × (p .end ≤ length (now message)) × (isPrice (slice (p .start) (p .end) (now message)) ≡ true) ⌝ }
-    ensures { λ r. ⌜ r ≡ termsOf (priceSaid (slice (p .start) (p .end) (now (message .entry)))) (cond (p .market) 1 0) stop manual opening ⌝ }
+    ensures { λ r. ⌜ r ≡ termsOf (priceSaid (slice (p .start) (p .end) (now (message .entry)))) (cond (p .market) 1 0) stop manual opening (pos 0) ⌝ }
 {
     let start = p.start;
     let end = p.end;
     let price = price_said(&message[start..end]);
     let kind = pick(p.market, 1, 0);
+    let none = shares_of(0);
     Terms {
         price: price,
         kind: kind,
         stop: stop,
         manual: manual,
         opening: opening,
+        shares: none,
     }
 }
 
@@ -85,10 +88,10 @@ pub fn check_fix(
     stop: u64,
     manual: u64,
     opening: u64,
-    st: Settings,
-    m: Market,
+    settings: &[u64],
+    market: &[u64],
 ) -> OrderAnswer
-    ensures { λ r. ⌜ r ≡ checkFix (record { settings = st; market = m; stop = stop; manual = manual; opening = opening }) (now (message .entry)) ⌝ }
+    ensures { λ r. ⌜ r ≡ checkFix (record { settings = settingsOf (now (settings .entry)); market = marketOf (now (market .entry)); stop = stop; manual = manual; opening = opening }) (now (message .entry)) ⌝ }
 {
     let h = head_of(message);
     let s = scan_fields(message, h.body);
@@ -102,5 +105,5 @@ pub fn check_fix(
     }
     let t = terms_said(message, p, stop, manual, opening);
     let o = order_said(message, p.groups, p.legs as usize, t);
-    check_order(o, st, m)
+    check_order(o, settings, market)
 }

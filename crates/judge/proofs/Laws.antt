@@ -1,20 +1,19 @@
 -- Answers, field by field; legs of a valid order, with their unit counts.
 use mathlib.Core.Path.{_≡_, refl, sym, ap, ap₂, _∙_}
 use mathlib.Core.List.{List, [], _∷_, map, zipWith}
-use mathlib.Core.Bool.{true, false, not, true≢false}
+use mathlib.Core.Bool.{true, false, not}
 use Prim.Native.Nat.{ℕ, zero, suc, _≤_}
 use native.Mathlib.Nat.{div-le-self, le-trans}
 use native.Mathlib.Omega.{arith}
 use lib.ListN.{length, length-map, take, getD}
 use lib.Seq.{length-take-le}
-use borrow.Author.Tests.{eq-eqb}
 use Rattle.rules.specs.declared.Leg.{Leg}
 use Rattle.rules.specs.declared.Terms.{Terms}
 use Rattle.rules.specs.declared.Settings.{Settings}
 use Rattle.rules.specs.declared.Market.{Market}
 use Rattle.rules.specs.declared.OrderAnswer.{OrderAnswer}
 use Rattle.rules.specs.Lists.{All}
-use Rattle.rules.specs.Order.{isYes, commonDivisor, divided, units, isSimple, isComplex}
+use Rattle.rules.specs.Order.{isYes, commonDivisor, divided, units, isComplex}
 use Rattle.rules.specs.Pairing.{bothWalks}
 use Rattle.rules.specs.Class.{classOf, shapeOf}
 use Rattle.rules.specs.Market.{settingsHold}
@@ -89,10 +88,6 @@ units-length ls = length-map ls _
 units-within : (ls : List Leg) → All UnitWithin ls → All UnitWithin (units ls)
 unfolding units
 units-within ls h = within-divided (commonDivisor ls) ls h
-
-pub complex-length : (t : Terms) (ls : List Leg) → isComplex t ls ≡ true → length ls ≡ 1 → ⊥
-unfolding isSimple
-complex-length t ls h e = true≢false (sym h ∙ ap not (eq-eqb (length ls) 1 e))
 
 -- the unit legs of a complex order
 pub complex-units : (st : Settings) (t : Terms) (n : ℕ) (tags left : List ℕ) (us : List Leg) → settingsHold st ≡ true → ValidTags n tags left → 1 ≤ n

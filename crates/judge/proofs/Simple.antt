@@ -12,10 +12,10 @@ use Rattle.rules.specs.declared.Terms.{Terms}
 use Rattle.rules.specs.declared.Settings.{Settings}
 use Rattle.rules.specs.declared.Market.{Market}
 use Rattle.rules.specs.Lists.{sort, insert, all, sameBool, every}
-use Rattle.rules.specs.Order.{isYes, gcd, gcdWithin, commonDivisor, units, isSimple}
+use Rattle.rules.specs.Order.{isYes, gcd, gcdWithin, commonDivisor, units, hasShares, isSimple}
 use Rattle.rules.specs.Pairing.{reach, walk, byExpiry, bothWalks}
 use Rattle.rules.specs.Class.{shapeOf, allOf, pairClass, classWith, classOf}
-use Rattle.rules.specs.Checks.{simpleBuy, sizes, sameSideBelow, buyBuy, debitCredit, maximumOf, maximumValue}
+use Rattle.rules.specs.Checks.{simpleBuy, sizes, sharesOn, sameSideBelow, buyBuy, debitCredit, maximumOf, maximumValue}
 use Rattle.rules.specs.Market.{isTooFar, tickDistance}
 use Rattle.rules.specs.Numbers.{rejection, judged}
 use Rattle.keys.specs.Tags.{legAt}
@@ -47,7 +47,7 @@ class-one x u h = rw (ne-eqb (x .size) 0 (λ e. absurd (omega arith))) (go (x .b
 -- the checks of one leg, of any root
 rejection-root : (st : Settings) (m : Market) (t : Terms) (root : ℕ) (u : Leg) (class : ℕ)
     → rejection st m t (u ∷ []) class ≡ rejection st m t (record { root = root; series = u .series; bought = u .bought; size = u .size } ∷ []) class
-unfolding rejection isSimple simpleBuy buyBuy sameSideBelow sizes debitCredit maximumValue maximumOf shapeOf tickDistance isTooFar all every
+unfolding rejection hasShares isSimple simpleBuy buyBuy sharesOn sameSideBelow sizes debitCredit maximumValue maximumOf shapeOf tickDistance isTooFar all every
 rejection-root st m t root u class = refl
 
 -- the answer to one leg, from one unit of it

@@ -17,7 +17,7 @@ ghost use Rattle.rules.specs.Market.{settingsHold, marketHolds};
 ghost use Rattle.rules.specs.Numbers.{judged};
 ghost use Rattle.keys.specs.Tags.{legAt, legsIn, ValidTags};
 
-// An order of one leg has nothing to divide or to pair: one unit of it is judged, whatever its contracts.
+// A simple order has nothing to divide or to pair: one unit of it is judged, whatever its contracts.
 fn judge_simple(st: Settings, m: Market, t: Terms, tag: u64) -> OrderAnswer
     requires { ⌜
         (settingsHold st ≡ true)
@@ -46,7 +46,7 @@ fn judge_complex(
     requires { ⌜
         (settingsHold st ≡ true)
         × ValidTags n (now tags) (now left)
-        × (2 ≤ n)
+        × (1 ≤ n)
         × (isComplex t (legsIn 0 false n (now tags) (now left)) ≡ true)
         ⌝ }
     ensures { λ r.
@@ -78,7 +78,8 @@ pub fn judge(
         ⌝ }
     ensures { λ r. ⌜ ((root : ℕ) → r ≡ judged st m t (legsIn root false n (now (tags .entry)) (now (left .entry)))) ⌝ }
 {
-    if is_simple(t, n) {
+    let simple = is_simple(t, n);
+    if simple {
         return judge_simple(st, m, t, tags[0]);
     }
     judge_complex(st, t, tags, left, n)

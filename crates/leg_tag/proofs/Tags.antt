@@ -1,6 +1,6 @@
 -- One leg: its symbol's length, its root and its tag.
 use mathlib.Core.Path.{_≡_, refl, sym, ap, _∙_}
-use mathlib.Core.List.{List, [], _∷_, map}
+use mathlib.Core.List.{List, [], _∷_}
 use mathlib.Core.Bool.{Bool, true, false, cond, not}
 use Prim.Native.Nat.{ℕ, zero, suc, _+_, _*_, _^_, _≤_, _<_}
 use native.Mathlib.Omega.{arith}
@@ -8,6 +8,7 @@ use lib.ListN.{length, getD, length-map}
 use lib.Dec.{eqb}
 use borrow.Author.Tests.{not-false, le-leb, lt-ltb, ne-eqb}
 use mir.Val.{Val}
+use borrow.Kind.Array.{eStruct}
 use denote.Array.{each}
 use denote.Shadow.{shadow}
 use Rattle.rules.specs.declared.Series.{Series}
@@ -19,7 +20,8 @@ use Rattle.rules.specs.Symbol.{isRoot, partsOf, isSymbol, readSymbol}
 use Rattle.rules.specs.Order.{seriesOf, legOf, noRawLeg}
 use Rattle.rules.specs.Pairing.{digit}
 use Rattle.rules.specs.Valid.{InRange}
-use Rattle.rules.proofs.RawLeg.{the-field}
+use Rattle.rules.proofs.RawLeg.{the-type}
+use Rattle.rules.proofs.RawLeg.Laws.{the-laws, the-copy}
 use Rattle.rules.proofs.Numerals.{numeral-value, value-below}
 use Rattle.rules.proofs.Symbols.{limits, laid, parts-in-layout, read-outside}
 use Rattle.symbol.proofs.Laws.{parts-small, read-good}
@@ -27,7 +29,7 @@ use Rattle.keys.specs.Tags.{keyOf, tagOf}
 use Rattle.leg_tag.specs.Known.{IsKnown, tagAt}
 
 -- what owning an array of raw legs tells of it: each symbol has 21 bytes
-pub symbol-length : (rs : List RawLeg) (us : List Val) (i : ℕ) → i < length rs → shadow (each (the-field .row .Denot) (the-field .row .own) (map (the-field .into) rs) us) → length (getD rs i noRawLeg .symbol) ≡ 21
+pub symbol-length : (rs : List RawLeg) (us : List Val) (i : ℕ) → i < length rs → shadow (each (eStruct the-type the-laws the-copy .ty .Denot) (eStruct the-type the-laws the-copy .ty .own) rs us) → length (getD rs i noRawLeg .symbol) ≡ 21
 symbol-length [] us i h p = absurd (omega (arith, h))
 symbol-length (r ∷ rs) [] i h p = absurd p
 symbol-length (r ∷ rs) (u ∷ us) zero h p = sym (length-map (r .symbol) _) ∙ p .0 .1 .1 .1 .1 .0 .1 .0 .1

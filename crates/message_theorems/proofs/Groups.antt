@@ -7,6 +7,7 @@ use native.Mathlib.Omega.{arith}
 use lib.Dec.{eqb}
 use lib.ListN.{length, length-append, drop}
 use borrow.Author.Tests.{not-false}
+use lib.IntN.{pos}
 use Rattle.rules.specs.declared.OrderAnswer.{OrderAnswer}
 use Rattle.rules.specs.Lists.{All, Perm, none, keep, swap, then, all}
 use Rattle.rules.specs.Order.{legsOf, termsOf}
@@ -54,7 +55,7 @@ same-outcome (suc n) x y h = refl
 -- the same terms, and the legs in another sequence
 same-check : (a : MessageInputs) (o p : SaidOrder) → o .kind ≡ p .kind → o .price ≡ p .price → Perm (o .legs) (p .legs) → checkSaid a o ≡ checkSaid a p
 same-check a o p k z l =
-    rw (k, z, length-perm l) (check-perm (a .settings) (a .market) (termsOf (p .price) (p .kind) (a .stop) (a .manual) (a .opening)) (length (p .legs)) l)
+    rw (k, z, length-perm l) (check-perm (a .settings) (a .market) (termsOf (p .price) (p .kind) (a .stop) (a .manual) (a .opening) (pos 0)) (length (p .legs)) l)
 
 wrong-frame : (a : MessageInputs) (n : ℕ) (fs : List (List ℕ)) → hasFrame fs ≡ false → answer a n fs ≡ refused 30
 unfolding firstOf outcome
@@ -141,7 +142,7 @@ module _ (a : MessageInputs) (m : List ℕ) where
   unfolding messageRefusal all
   refusal-refuses = first-passes (λ k. isAccepted k || isRefused k) (messageRefusals m) refl refl
 
-  itself : Arrivals (a .settings) (a .market) (orderOf m .price) (legsOf (orderOf m .legs)) (checkFix a m) (checkFix a m)
+  itself : Arrivals (a .settings) (a .market) (orderOf m .price) (pos 0) (legsOf (orderOf m .legs)) (checkFix a m) (checkFix a m)
   unfolding checkFix outcome
   itself = go (messageRefusal m) refusal-refuses
     where
@@ -149,17 +150,17 @@ module _ (a : MessageInputs) (m : List ℕ) where
       o = orderOf m
 
       go : (k : ℕ) → isAccepted k || isRefused k ≡ true
-          → Arrivals (a .settings) (a .market) (o .price) (legsOf (o .legs)) (outcome k (checkSaid a o)) (outcome k (checkSaid a o))
+          → Arrivals (a .settings) (a .market) (o .price) (pos 0) (legsOf (o .legs)) (outcome k (checkSaid a o)) (outcome k (checkSaid a o))
       go zero h =
-          let t = termsOf (o .price) (o .kind) (a .stop) (a .manual) (a .opening) in
-          both-arrivals (a .settings) (a .market) t (length (o .legs)) (o .price) (signed-back (o .price)) (o .legs) (o .legs) (perm-refl (o .legs))
+          let t = termsOf (o .price) (o .kind) (a .stop) (a .manual) (a .opening) (pos 0) in
+          both-arrivals (a .settings) (a .market) t (length (o .legs)) (o .price) (pos 0) (signed-back (o .price)) (o .legs) (o .legs) (perm-refl (o .legs))
       go (suc k) h =
           let never : IsValid (refused (suc k)) → ⊥ = λ v. omega (arith, not-refused (suc k) h v) in
-          record { same = refl; debit = λ v. absurd (never v); credit = λ v. absurd (never v); sound = λ v. absurd (never v) }
+          record { same = refl; debit = λ none v. absurd (never v); credit = λ none v. absurd (never v); sound = λ none v. absurd (never v) }
 
 pub message-demand3 : MessageDemand3
 message-demand3 =
     record {
       messages = λ a gaps gs hs back hp hg p.
-          subst (Arrivals (a .settings) (a .market) _ _ (checkFix a (messageWith gaps gs back))) (same-answer a gaps back hp hg p) (itself a (messageWith gaps gs back));
+          subst (Arrivals (a .settings) (a .market) _ _ _ (checkFix a (messageWith gaps gs back))) (same-answer a gaps back hp hg p) (itself a (messageWith gaps gs back));
     }

@@ -2,6 +2,7 @@
 use mathlib.Core.Path.{_≡_}
 use mathlib.Core.List.{List}
 use Prim.Native.Nat.{ℕ}
+use lib.IntN.{pos}
 use Rattle.rules.specs.Lists.{All}
 use Rattle.rules.specs.Order.{Lent, symbolsOf, countsOf, lentLegs}
 use Rattle.rules.specs.Numbers.{Inputs, answerTo}
@@ -10,7 +11,7 @@ use Rattle.demand3.specs.Demand3.{IsWhole}
 
 -- price and kind are the message's, all else is the host's
 abbrev pub inputsOf : MessageInputs → SaidOrder → Inputs
-inputsOf a o = record { settings = a .settings; market = a .market; price = o .price; kind = o .kind; stop = a .stop; manual = a .manual; opening = a .opening }
+inputsOf a o = record { settings = a .settings; market = a .market; price = o .price; kind = o .kind; stop = a .stop; manual = a .manual; opening = a .opening; shares = pos 0 }
 
 -- the order check on slices, of the same legs end to end
 abbrev pub Checked : Type 0

@@ -4,6 +4,7 @@ use mathlib.Core.List.{List, [], _∷_, _++_}
 use mathlib.Core.Bool.{true, not}
 use Prim.Native.Nat.{ℕ}
 use lib.Dec.{eqb}
+use lib.IntN.{pos}
 use Rattle.rules.specs.Lists.{All, Perm, all}
 use Rattle.rules.specs.Order.{legsOf}
 use Rattle.rules.specs.Fix.{fieldFor, bytesOf, orderOf, MessageInputs, checkFix}
@@ -40,5 +41,5 @@ messageWith gaps gs back = bytesOf (withGaps gaps gs) ++ back
 -- The gaps stay, and the groups come in another sequence. Where there are no groups and no gaps, this is said of any message.
 pub record MessageDemand3 : Type 0 where
   pub messages : (a : MessageInputs) (gaps : List (List (List ℕ))) (gs hs : List Group) (back : List ℕ) → All (All IsPart) gaps → All IsGroup gs → Perm gs hs
-      → Arrivals (a .settings) (a .market) (orderOf (messageWith gaps gs back) .price) (legsOf (orderOf (messageWith gaps gs back) .legs))
+      → Arrivals (a .settings) (a .market) (orderOf (messageWith gaps gs back) .price) (pos 0) (legsOf (orderOf (messageWith gaps gs back) .legs))
       (checkFix a (messageWith gaps gs back)) (checkFix a (messageWith gaps hs back))

@@ -1,5 +1,5 @@
 -- The definitions of the order check, case by case.
-use mathlib.Core.Path.{_≡_, refl, sym, ap, ap₂, _∙_}
+use mathlib.Core.Path.{_≡_, refl, sym, ap, _∙_}
 use mathlib.Core.List.{List, [], _∷_, _++_, map}
 use mathlib.Core.Bool.{Bool, true, false, cond}
 use Prim.Native.Nat.{ℕ, zero, suc, _/_, _≤_, _<_}
@@ -78,14 +78,14 @@ first-none (e ∷ es) fs h = go (e .0) h (first-none es fs)
 
 -- `after` are the places sorted, `tags` and `left` what is arranged by them
 module _ (st : Settings) (m : Market) (o : Order) (full : length (o .legs) ≡ 16) (places sizes roots after : List ℕ) (read : Read) (r : ℕ)
-    (is : IsRead o places sizes roots read)
-    (refuses : Refuses st m read places roots after r)
+    (is : IsRead (o .legs) (o .len) places sizes roots read)
+    (refuses : Refuses st m (o .terms) read places roots after r)
     (none : r ≡ 0) where
   abbrev ls : List Leg
   ls = legsOf (recordLegs o)
 
   zero-refusal : refusal st m (o .terms) (o .len) (recordLegs o) ≡ 0
-  zero-refusal = sym (refuses .number o sizes full is) ∙ none
+  zero-refusal = sym (refuses .number (o .legs) (o .len) sizes full is) ∙ none
 
   abbrev pub ValidOrder : Type 0
   ValidOrder = (1 ≤ o .len) × (o .len ≤ 16) × AreValid ls × (settingsHold st ≡ true) × (marketHolds m ≡ true)
@@ -93,7 +93,7 @@ module _ (st : Settings) (m : Market) (o : Order) (full : length (o .legs) ≡ 1
   pub valid-order : ValidOrder
   valid-order = not-refused st m (o .terms) (o .len) (recordLegs o) zero-refusal
 
-  good : GoodRead o places sizes roots read
+  good : GoodRead (o .legs) (o .len) places sizes roots read
   unfolding refusal
   good = is .good (is .number ∙ first-none (readRefusals (o .len) (recordLegs o)) _ zero-refusal)
 
@@ -121,5 +121,5 @@ module _ (st : Settings) (m : Market) (o : Order) (full : length (o .legs) ≡ 1
     order-legs = valid-legs ls (valid-order .2) (read .len) many few after sizes tags left order counts arranged
 
     -- what is judged of the arrays, with the order's terms, is the answer
-    pub order-judged : (t : Terms) (a : OrderAnswer) → t ≡ o .terms → ((root : ℕ) → a ≡ judged st m t (legsIn root false (read .len) tags left)) → a ≡ checkOrder st m o
-    order-judged t a e h = h (rootOf ls) ∙ ap₂ (judged st m) e order-legs ∙ sym (order-valid st m o r (refuses .number o sizes full is) none)
+    pub order-judged : (a : OrderAnswer) → ((root : ℕ) → a ≡ judged st m (o .terms) (legsIn root false (read .len) tags left)) → a ≡ checkOrder st m o
+    order-judged a h = h (rootOf ls) ∙ ap (judged st m (o .terms)) order-legs ∙ sym (order-valid st m o r (refuses .number (o .legs) (o .len) sizes full is) none)

@@ -1,65 +1,46 @@
 // Some of document 01's examples through the order check on slices: number, class, shape and pairings of each. The file
 // cases/papers.desk has all of them.
-use inputs::market_of;
-use inputs::settings_of;
 use libc::STDOUT_FILENO;
 use order_check::check_slices;
-use rules::Market;
 use rules::OrderAnswer;
-use rules::Settings;
 use terms::terms_of;
 ghost use mathlib.Core.Path.{_≡_};
 ghost use Rattle.rules.specs.Numbers.{checkSlices};
 ghost use Rattle.rules.specs.Examples.{exampleSettings, exampleMarket, exampleTerms};
 
 // Every check on, ticks and net increment of a cent, ATDs of 5, 3 percent between presets of 0 and 0.60, 4 set ticks.
-fn settings() -> Settings
-    ensures { λ r. ⌜ r ≡ exampleSettings 0 ⌝ }
-{
-    settings_of(
-        &[
-            1,
-            1,
-            1,
-            1,
-            1,
-            1,
-            1,
-            10,
-            10,
-            10,
-            5,
-            5,
-            5,
-            5,
-            300,
-            0,
-            600,
-            4,
-            0,
-            0,
-        ],
-    )
-}
+const SETTINGS: [u64; 20] = [
+    1,
+    1,
+    1,
+    1,
+    1,
+    1,
+    1,
+    10,
+    10,
+    10,
+    5,
+    5,
+    5,
+    5,
+    300,
+    0,
+    600,
+    4,
+    0,
+    0,
+];
 
 // Open, with every value missing.
-fn market() -> Market
-    ensures { λ r. ⌜ r ≡ exampleMarket ⌝ }
-{
-    market_of(&[1, 0, 0, 0, 0, 0, 0, 0, 0])
-}
+const MARKET: [u64; 9] = [1, 0, 0, 0, 0, 0, 0, 0, 0];
 
-// Of a limit order with no flags.
+// Of a limit order with no flags and no shares.
 fn answer_to(symbols: &[u8], counts: &[u8], price: i64) -> OrderAnswer
     ensures { λ r. ⌜ r ≡ checkSlices (exampleSettings 0) exampleMarket (exampleTerms price) (now (symbols .entry)) (now (counts .entry)) ⌝ }
 {
-    check_slices(
-        symbols,
-        counts,
-        terms_of(price, 0, 0, 0, 0),
-        settings(),
-        market(),
-    )
+    let terms = terms_of(price, 0, 0, 0, 0, 0);
+    check_slices(symbols, counts, terms, &SETTINGS, &MARKET)
 }
 
 fn print_number(words: &[u8], number: u64) {

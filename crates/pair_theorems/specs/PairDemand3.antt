@@ -12,9 +12,9 @@ use Rattle.rules.specs.Numbers.{areWhole}
 use Rattle.rules.specs.Pair.{PairOrder, checkPair}
 use Rattle.demand3.specs.Demand3.{IsWhole}
 
--- an order with other slices, alike in price, kind and flags
+-- an order with other slices, alike in price, kind, flags and shares
 abbrev pub holding : PairOrder → List ℕ → List ℕ → PairOrder
-holding o symbols counts = record { symbols = symbols; counts = counts; price = o .price; kind = o .kind; stop = o .stop; manual = o .manual; opening = o .opening }
+holding o symbols counts = record { symbols = symbols; counts = counts; price = o .price; kind = o .kind; stop = o .stop; manual = o .manual; opening = o .opening; shares = o .shares }
 
 abbrev pub ofLegs : PairOrder → List Lent → PairOrder
 ofLegs o xs = holding o (symbolsOf xs) (countsOf xs)

@@ -6,8 +6,7 @@ use choice::negated;
 use keys::place_of;
 use leg_tag::tag_at;
 use root_number::root_of;
-use rules::Order;
-use rules::Terms;
+use rules::RawLeg;
 ghost use mathlib.Core.Path.{_≡_};
 ghost use lib.ListN.{length};
 ghost use Rattle.reading.specs.Legs.{IsRead};
@@ -19,17 +18,15 @@ pub struct Read {
     // A root is not the first leg's.
     pub other: bool,
     pub len: usize,
-    pub terms: Terms,
 }
 
-fn read_of(number: u64, other: bool, len: usize, terms: Terms) -> Read
-    ensures { λ r. ⌜ r ≡ record { number = number; other = other; len = len; terms = terms } ⌝ }
+fn read_of(number: u64, other: bool, len: usize) -> Read
+    ensures { λ r. ⌜ r ≡ record { number = number; other = other; len = len } ⌝ }
 {
     Read {
         number: number,
         other: other,
         len: len,
-        terms: terms,
     }
 }
 
@@ -39,30 +36,29 @@ const NO_ROOT: u64 = 281474976710656;
 // Each symbol is read once, and a root that is the first leg's is not tested again. A bad count does not end the loop,
 // since a symbol that stands behind it may be outside the layout, which is the lower number.
 pub fn read_legs(
-    o: Order,
+    legs: [RawLeg; 16],
+    n: usize,
     places: &mut [u64; 16],
     sizes: &mut [u64; 16],
     roots: &mut [u64; 16],
 ) -> Read
     requires { ⌜ (length (now places) ≡ 16) × (length (now sizes) ≡ 16) × (length (now roots) ≡ 16) ⌝ }
-    ensures { λ r. ⌜ IsRead o (now (places .exit)) (now (sizes .exit)) (now (roots .exit)) r ⌝ }
+    ensures { λ r. ⌜ IsRead legs n (now (places .exit)) (now (sizes .exit)) (now (roots .exit)) r ⌝ }
 {
-    let n = o.len;
-    let t = o.terms;
     if negated(within(1, 16, n as u64)) {
-        return read_of(3, false, 0, t);
+        return read_of(3, false, 0);
     }
     let mut first = NO_ROOT;
     let mut number = 0;
     let mut other = false;
     let mut i = 0;
     while i < n {
-        let raw = o.legs[i];
+        let raw = legs[i];
         let s = raw.symbol;
         let root = root_of(s[0], s[1], s[2], s[3], s[4], s[5]);
         let tag = tag_at(first, root, &s, raw.bought);
         if tag == 0 {
-            return read_of(4, false, 0, t);
+            return read_of(4, false, 0);
         }
         places[i] = place_of(tag, i);
         sizes[i] = raw.size;
@@ -72,5 +68,5 @@ pub fn read_legs(
         other = either(other, negated(first == root));
         i += 1;
     }
-    read_of(number, other, n, t)
+    read_of(number, other, n)
 }

@@ -6,6 +6,7 @@ use mathlib.Core.Bool.{Bool, true, false, cond, not, _&&_, _||_, true≢false}
 use Prim.Native.Nat.{ℕ, zero, suc, _/_}
 use lib.ListN.{length}
 use lib.Dec.{eqb}
+use lib.IntN.{pos}
 use borrow.Author.Tests.{eqb-true}
 use Rattle.rules.specs.declared.RawLeg.{RawLeg}
 use Rattle.rules.specs.declared.Terms.{Terms}
@@ -21,15 +22,17 @@ use Rattle.rules.specs.Order.{isYes, rawLegs, recordLegs, termsOf, serie
 use Rattle.rules.specs.Pairing.{byStrike, bothWalks}
 use Rattle.rules.specs.Class.{classOf}
 use Rattle.rules.specs.Kinds.{isRefused, isRejected}
-use Rattle.rules.specs.Numbers.{refusals, refusal, rejections, rejection, judged, refused, outcome, checkLegs, checkOrder, areWhole, checkSlices}
+use Rattle.rules.specs.Numbers.{firstOf, refusals, refusal, rejections, rejection, judged, refused, outcome, checkLegs, checkOrder, areWhole, checkSlices}
 use Rattle.rules.specs.Symbol.{partsOf}
 use Rattle.rules.specs.Quote.{quoteRefusals, quoteRefusal, quoteRejections, quoteRejection, answeredQuote, quoteOutcome, checkQuote}
 use Rattle.rules.specs.Fix.{messageRefusals, messageRefusal, SaidOrder, orderIn, bodyOf, checkSaid, checkFix}
 use Rattle.rules.specs.Tally.{isBadTally, tallied, Call, order, message, ownAnswer, checkTallied}
-use Rattle.rules.specs.Demand1.{readerNumbers, Reader, writerNumbers, Writer, legNumbers, orderNumbers, OrderAnswers, OrderCheck, messageNumbers, MessageCheck, quoteNumbers, QuoteAnswers, QuoteCheck, TalliedAnswers, callNumbers, TalliedCheck, Numbered}
+use Rattle.rules.specs.WithoutShares.{optionRefusals, optionRejections, optionsJudged, checkOptions}
+use Rattle.rules.specs.Demand1.{readerNumbers, Reader, writerNumbers, Writer, legNumbers, orderNumbers, OrderAnswers, OrderCheck, optionNumbers, messageNumbers, MessageCheck, quoteNumbers, QuoteAnswers, QuoteCheck, TalliedAnswers, callNumbers, TalliedCheck, Numbered}
 use Rattle.rules.proofs.Tests.{and-both, not-eq, same-eq}
 use Rattle.rules.proofs.Symbols.{read-cases, write-cases}
 use Rattle.rules.proofs.Numbering.{first-passes}
+use Rattle.rules.proofs.WithoutShares.{legs-moved, no-size}
 
 -- what holds of all listed numbers holds of each
 pub passes : (f : ℕ → Bool) (n : ℕ) (ns : List ℕ) → all f ns ≡ true → List·Memᴰ n ns → f n ≡ true
@@ -69,6 +72,12 @@ writer p buffer =
 refused-answers : (ns : List ℕ) (n : ℕ) → isOf ns n ≡ true → OrderAnswers ns (refused n)
 refused-answers ns n h = record { number = member n ns h; refusal = λ e. (refl, refl, refl) }
 
+-- a refusal with one of the numbers, or an answer with one of them that is no refusal's
+outcome-answers : (ns : List ℕ) (k : ℕ) (r : OrderAnswer) → isOf ns k ≡ true → isOf ns (r .number) && not (isRefused (r .number)) ≡ true → OrderAnswers ns (outcome k r)
+unfolding outcome
+outcome-answers ns zero r h j = let e = and-both _ _ j in record { number = member _ ns (e .0); refusal = λ f. absurd (true≢false (sym f ∙ not-eq _ (e .1))) }
+outcome-answers ns (suc k) r h j = refused-answers ns (suc k) h
+
 -- a check that gives more numbers
 more : (ns ms : List ℕ) (r : OrderAnswer) → all (isOf ms) ns ≡ true → OrderAnswers ns r → OrderAnswers ms r
 more ns ms r h a = record { number = member (r .number) ms (passes (isOf ms) (r .number) ns h (a .number)); refusal = a .refusal }
@@ -86,17 +95,22 @@ module _ (st : Settings) (m : Market) (t : Terms) where
   rejection-number us class = first-passes (λ n. isListed n && not (isRefused n)) (rejections st m t us class) refl refl
 
   legs-answers : (n : ℕ) (rs : List RawLeg) → OrderAnswers (0 ∷ legNumbers) (checkLegs st m t n rs)
-  unfolding checkLegs outcome judged
-  legs-answers n rs = go (refusal st m t n rs) (refusal-number n rs)
+  unfolding checkLegs judged
+  legs-answers n rs = outcome-answers (0 ∷ legNumbers) (refusal st m t n rs) (judged st m t (byStrike (legsOf rs))) (refusal-number n rs) (rejection-number _ _)
+
+  -- the same of legs without shares
+  options-answers : (n : ℕ) (rs : List RawLeg) → OrderAnswers (0 ∷ optionNumbers) (checkOptions st m t n rs)
+  unfolding checkOptions any all
+  options-answers n rs =
+      outcome-answers (0 ∷ optionNumbers) (firstOf (optionRefusals st m t n rs)) (optionsJudged st m t (byStrike (legsOf rs)))
+      (first-passes (isOf (0 ∷ optionNumbers)) (optionRefusals st m t n rs) refl refl)
+      (first-passes (λ k. isOf (0 ∷ optionNumbers) k && not (isRefused k)) (optionRejections st m t us (classOf us (bothWalks (isYes (st .european)) ls))) refl refl)
     where
       ls : List Leg
       ls = byStrike (legsOf rs)
 
-      go : (k : ℕ) → isListed k ≡ true → OrderAnswers (0 ∷ legNumbers) (outcome k (judged st m t ls))
-      go zero h =
-          let r = and-both _ _ (rejection-number (units ls) (classOf (units ls) (bothWalks (isYes (st .european)) ls))) in
-          record { number = member _ (0 ∷ legNumbers) (r .0); refusal = λ e. absurd (true≢false (sym e ∙ not-eq _ (r .1))) }
-      go (suc k) h = refused-answers (0 ∷ legNumbers) (suc k) h
+      us : List Leg
+      us = units ls
 
   order-answers : (n : ℕ) (rs : List RawLeg) → OrderAnswers orderNumbers (checkLegs st m t n rs)
   unfolding all any
@@ -128,11 +142,14 @@ message-check a m = go (messageRefusal m) (message-number m)
     o : SaidOrder
     o = orderIn (bodyOf m)
 
-    legs : OrderAnswers (0 ∷ legNumbers) (checkSaid a o)
-    legs = legs-answers (a .settings) (a .market) (termsOf (o .price) (o .kind) (a .stop) (a .manual) (a .opening)) (length (o .legs)) (o .legs)
+    t : Terms
+    t = termsOf (o .price) (o .kind) (a .stop) (a .manual) (a .opening) (pos 0)
+
+    legs : OrderAnswers (0 ∷ optionNumbers) (checkSaid a o)
+    legs = rw (legs-moved t (no-size (pos 0) refl) (a .settings) (a .market) (length (o .legs)) (o .legs)) (options-answers (a .settings) (a .market) t (length (o .legs)) (o .legs))
 
     go : (k : ℕ) → isOf messageNumbers k ≡ true → OrderAnswers messageNumbers (outcome k (checkSaid a o))
-    go zero h = more (0 ∷ legNumbers) messageNumbers (checkSaid a o) refl legs
+    go zero h = more (0 ∷ optionNumbers) messageNumbers (checkSaid a o) refl legs
     go (suc k) h = refused-answers messageNumbers (suc k) h
 
 -- ---- quotes
@@ -182,7 +199,7 @@ quote-check st m symbol bid offer resting = quote-answers st m symbol bid offer 
 
 pub call-answers : (c : Call) → OrderAnswers (callNumbers c) (ownAnswer c)
 call-answers (order a symbols counts) =
-    order-check .slices (a .settings) (a .market) (termsOf (a .price) (a .kind) (a .stop) (a .manual) (a .opening)) symbols counts
+    order-check .slices (a .settings) (a .market) (termsOf (a .price) (a .kind) (a .stop) (a .manual) (a .opening) (a .shares)) symbols counts
 call-answers (message a m) = message-check a m
 
 -- no check gives 12 by itself
@@ -203,4 +220,4 @@ tallied-check t c = tallied-answers (callNumbers c) (no-twelve c) t (ownAnswer c
 
 pub numbered : Numbered
 unfolding all any
-numbered = record { listed = refl; given = refl; kinds = refl; orders = refl; messages = refl; quotes = refl }
+numbered = record { listed = refl; given = refl; kinds = refl; placed = refl; sequenced = refl; orders = refl; messages = refl; quotes = refl }

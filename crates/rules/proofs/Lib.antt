@@ -4,12 +4,14 @@ pub mod Numerals
 pub mod Slices
 pub mod Symbols
 pub mod Numbering
+pub mod WithoutShares
 pub mod Handed
 pub mod Examples
 pub mod Edges
 pub mod Messages
 pub mod Pairs
 pub mod Figures
+pub mod StockOrders
 pub mod Demand1
 pub mod Demand2
 pub mod Tallying

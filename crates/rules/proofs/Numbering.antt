@@ -15,6 +15,7 @@ use Rattle.rules.specs.declared.Mills.{Mills}
 use Rattle.rules.specs.declared.Series.{Series}
 use Rattle.rules.specs.declared.Settings.{Settings}
 use Rattle.rules.specs.declared.Market.{Market}
+use Rattle.rules.specs.Kinds.{sequence, placeIn}
 use Rattle.rules.specs.Quote.{quoteRefusals, quoteRefusal, quoteRejections, quoteRejection}
 use Rattle.rules.specs.Numbers.{firstOf, named, refusals, refusal, rejections, rejection}
 
@@ -43,32 +44,39 @@ none-apply [] s h = tt
 none-apply ((true, n) ∷ es) s h = absurd (true≢false (sym (and-both (not (eqb n 0)) _ s .0) ∙ ap not (eq-eqb n 0 h)))
 none-apply ((false, n) ∷ es) s h = (refl, none-apply es (and-both (not (eqb n 0)) _ s .1) h)
 
--- the numbers rise from `n`
-abbrev rises : ℕ → List (Bool × ℕ) → Bool
-rises n [] = true
-rises n (e ∷ es) = leb n (e .1) && rises (e .1) es
+-- what is given by a list whose numbers rise by their rank
+module _ (rank : ℕ → ℕ) where
+  -- from `n` on
+  abbrev rises : ℕ → List (Bool × ℕ) → Bool
+  rises n [] = true
+  rises n (e ∷ es) = leb n (rank (e .1)) && rises (rank (e .1)) es
 
-above : (n m : ℕ) (es : List (Bool × ℕ)) → n ≤ m → rises m es ≡ true → All (λ f. f .0 ≡ true → n ≤ f .1) es
-above n m [] l h = tt
-above n m (e ∷ es) l h =
-    let k = and-both (leb m (e .1)) _ h in
-    let b = leb-true m (e .1) (k .0) in
-    ((λ t. omega arith), above n (e .1) es (omega arith) (k .1))
+  above : (n m : ℕ) (es : List (Bool × ℕ)) → n ≤ m → rises m es ≡ true → All (λ f. f .0 ≡ true → n ≤ rank (f .1)) es
+  above n m [] l h = tt
+  above n m (e ∷ es) l h =
+      let k = and-both (leb m (rank (e .1))) _ h in
+      let b = leb-true m (rank (e .1)) (k .0) in
+      ((λ t. omega arith), above n (rank (e .1)) es (omega arith) (k .1))
 
--- "The lowest number that applies is given": the first of rising numbers
-lowest : (n : ℕ) (es : List (Bool × ℕ)) → rises n es ≡ true → All (λ e. e .0 ≡ true → firstOf es ≤ e .1) es
-unfolding firstOf
-lowest n [] h = tt
-lowest n (e ∷ es) h = let k = and-both (leb n (e .1)) _ h in go (e .0) (k .1) (lowest (e .1) es (k .1))
-  where
-    go : (b : Bool) → rises (e .1) es ≡ true → All (λ f. f .0 ≡ true → firstOf es ≤ f .1) es
-        → (b ≡ true → cond b (e .1) (firstOf es) ≤ e .1) × All (λ f. f .0 ≡ true → cond b (e .1) (firstOf es) ≤ f .1) es
-    go true r ih = ((λ t. omega arith), above (e .1) (e .1) es (omega arith) r)
-    go false r ih = ((λ t. absurd (true≢false (sym t))), ih)
+  -- the first has the least rank of those that apply
+  earliest : (n : ℕ) (es : List (Bool × ℕ)) → rises n es ≡ true → All (λ e. e .0 ≡ true → rank (firstOf es) ≤ rank (e .1)) es
+  unfolding firstOf
+  earliest n [] h = tt
+  earliest n (e ∷ es) h = let k = and-both (leb n (rank (e .1))) _ h in go (e .0) (k .1) (earliest (rank (e .1)) es (k .1))
+    where
+      go : (b : Bool) → rises (rank (e .1)) es ≡ true → All (λ f. f .0 ≡ true → rank (firstOf es) ≤ rank (f .1)) es
+          → (b ≡ true → rank (cond b (e .1) (firstOf es)) ≤ rank (e .1)) × All (λ f. f .0 ≡ true → rank (cond b (e .1) (firstOf es)) ≤ rank (f .1)) es
+      go true r ih = ((λ t. omega arith), above (rank (e .1)) (rank (e .1)) es (omega arith) r)
+      go false r ih = ((λ t. absurd (true≢false (sym t))), ih)
 
-pub lowest-refusal : (st : Settings) (m : Market) (t : Terms) (n : ℕ) (rs : List RawLeg) → All (λ e. e .0 ≡ true → refusal st m t n rs ≤ e .1) (refusals st m t n rs)
+-- "The lowest number that applies is given"
+lowest : (n : ℕ) (es : List (Bool × ℕ)) → rises (λ n. n) n es ≡ true → All (λ e. e .0 ≡ true → firstOf es ≤ e .1) es
+lowest = earliest (λ n. n)
+
+-- with 33, the first in the sequence of numbers
+pub earliest-refusal : (st : Settings) (m : Market) (t : Terms) (n : ℕ) (rs : List RawLeg) → All (λ e. e .0 ≡ true → placeIn sequence (refusal st m t n rs) ≤ placeIn sequence (e .1)) (refusals st m t n rs)
 unfolding refusal
-lowest-refusal st m t n rs = lowest 0 (refusals st m t n rs) refl
+earliest-refusal st m t n rs = earliest (placeIn sequence) 0 (refusals st m t n rs) refl
 
 pub lowest-rejection : (st : Settings) (m : Market) (t : Terms) (us : List Leg) (class : ℕ) → All (λ e. e .0 ≡ true → rejection st m t us class ≤ e .1) (rejections st m t us class)
 unfolding rejection

@@ -4,15 +4,15 @@ use Rattle.rules.specs.Lists.{all, any, somePair, every, lex, insert, so
 use Rattle.rules.specs.Numerals.{value, numeral, areDigits}
 use Rattle.rules.specs.Quantities.{distance}
 use Rattle.rules.specs.Symbol.{areSpaces, isRootTail, isRoot, leapDay, daysIn, dayExists, inLimits, symbolOf, partsOf, isSymbol}
-use Rattle.rules.specs.Order.{word, rawLeg, rawLegs, priceOf, legOf, legsOf, gcdWithin, gcd, commonDivisor, units, isSimple}
+use Rattle.rules.specs.Order.{word, rawLeg, rawLegs, priceOf, legOf, legsOf, gcdWithin, gcd, commonDivisor, units, sharesOf, hasShares, isSimple}
 use Rattle.rules.specs.Pairing.{pairOf, matched, reach, walk, byStrike, byExpiry, bothWalks, isDebit}
 use Rattle.rules.specs.Class.{isVertical, isButterfly, isBox, shapeOf, hasOwnClass, allOf, pairClass, classWith}
-use Rattle.rules.specs.Checks.{putTest, callTest, simpleBuy, sizes, isBelow, sameSideBelow, buyBuy, debitCredit, maximumOf, allowance, maximumValue}
+use Rattle.rules.specs.Checks.{putTest, callTest, simpleBuy, sizes, isBelow, sharesOn, sameSideBelow, buyBuy, debitCredit, maximumOf, allowance, maximumValue}
 use Rattle.rules.specs.Market.{isUnusable, elsewhereReference, reference, acceptableTicks, tickAt, limitDistance, isTooFar, tickDistance, settingsOf, marketOf, settingsHold, marketHolds}
-use Rattle.rules.specs.Numbers.{firstOf, isBadPrice, refusal, rejection, judged, outcome, checkLegs, checkSlices}
+use Rattle.rules.specs.Numbers.{firstOf, isBadPrice, isBadShares, refusal, rejection, judged, outcome, checkLegs, checkSlices}
 use Rattle.rules.specs.Pair.{paired, checkPair}
 use Rattle.rules.specs.Pairs.{Pairs}
 
 pub pairs : Pairs
-unfolding all any somePair every lex insert sort value numeral areDigits distance areSpaces isRootTail isRoot leapDay daysIn dayExists inLimits symbolOf partsOf isSymbol word rawLeg rawLegs priceOf legOf legsOf gcdWithin gcd commonDivisor units isSimple pairOf matched reach walk byStrike byExpiry bothWalks isDebit isVertical isButterfly isBox shapeOf hasOwnClass allOf pairClass classWith putTest callTest simpleBuy sizes isBelow sameSideBelow buyBuy debitCredit maximumOf allowance maximumValue isUnusable elsewhereReference reference acceptableTicks tickAt limitDistance isTooFar tickDistance settingsOf marketOf settingsHold marketHolds firstOf isBadPrice refusal rejection judged outcome checkLegs checkSlices paired checkPair
+unfolding all any somePair every lex insert sort value numeral areDigits distance areSpaces isRootTail isRoot leapDay daysIn dayExists inLimits symbolOf partsOf isSymbol word rawLeg rawLegs priceOf legOf legsOf gcdWithin gcd commonDivisor units sharesOf hasShares isSimple pairOf matched reach walk byStrike byExpiry bothWalks isDebit isVertical isButterfly isBox shapeOf hasOwnClass allOf pairClass classWith putTest callTest simpleBuy sizes isBelow sharesOn sameSideBelow buyBuy debitCredit maximumOf allowance maximumValue isUnusable elsewhereReference reference acceptableTicks tickAt limitDistance isTooFar tickDistance settingsOf marketOf settingsHold marketHolds firstOf isBadPrice isBadShares refusal rejection judged outcome checkLegs checkSlices paired checkPair
 pairs = record { passing = refl; numbers = refl; terms = refl; own = refl; paper = refl }

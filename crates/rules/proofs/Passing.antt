@@ -78,7 +78,7 @@ agency-stops true c = refl
 agency-stops false c = refl
 
 own-number : (st : Settings) (m : Market) (o : PairOrder) → List·Memᴰ (ownNumber st m o) orderNumbers
-own-number st m o = order-check .slices st m (termsOf (o .price) (o .kind) (o .stop) (o .manual) (o .opening)) (o .symbols) (o .counts) .number
+own-number st m o = order-check .slices st m (termsOf (o .price) (o .kind) (o .stop) (o .manual) (o .opening) (o .shares)) (o .symbols) (o .counts) .number
 
 pair-answers : (unpaired agency contra : ℕ) → List·Memᴰ agency orderNumbers → List·Memᴰ contra orderNumbers → PairAnswers (paired unpaired agency contra)
 unfolding paired

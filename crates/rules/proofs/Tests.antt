@@ -94,3 +94,11 @@ every-append (false ∷ xs) ys = refl
 -- two groups of tests
 pub joined : (xs ys : List Bool) {r a b : Bool} → r ≡ a && b → a ≡ every xs → b ≡ every ys → r ≡ every (xs ++ ys)
 joined xs ys e p q = cc (every-append xs ys)
+
+-- three tests in a row
+pub every-three : (a b c : Bool) → (a && b) && c ≡ every (a ∷ b ∷ c ∷ [])
+unfolding every
+every-three false b c = refl
+every-three true false c = refl
+every-three true true false = refl
+every-three true true true = refl

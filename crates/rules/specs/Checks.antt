@@ -1,4 +1,4 @@
--- Document 01, Checks 20 to 24. `us` are the unit legs in the first walk's sequence.
+-- Document 01, Checks 20 to 24, with what document 02, S-4, says of orders with shares. `us` are the unit legs in the first walk's sequence.
 use mathlib.Core.List.{List, [], _∷_}
 use mathlib.Core.Bool.{Bool, true, false, cond, not, _&&_, _||_}
 use Prim.Native.Nat.{ℕ, _+_, _-_, _*_, _/_, min, max}
@@ -11,7 +11,7 @@ use Rattle.rules.specs.declared.Leg.{Leg}
 use Rattle.rules.specs.declared.Settings.{Settings}
 use Rattle.rules.specs.declared.Market.{Market}
 use Rattle.rules.specs.Lists.{sameBool, all, every}
-use Rattle.rules.specs.Order.{isYes, isSimple, isComplex}
+use Rattle.rules.specs.Order.{isYes, hasShares, isSimple, isComplex}
 use Rattle.rules.specs.Class.{strikeOf, shapeOf}
 
 abbrev pub isMarket : Terms → Bool
@@ -63,16 +63,30 @@ sizes (l ∷ ls) = l .size + sizes ls
 unfoldable pub isBelow : Bool → Price → ℕ → Bool
 isBelow bought p n = cond bought (isNegative p) (isPositive p) || ltb (p .size .0) n
 
+-- S-4: "check 22 needs shares and all options on one side"; no shares are on either
+unfoldable pub sharesOn : Bool → Terms → Bool
+sharesOn side t = not (hasShares t) || sameBool side (t .shares .bought)
+
+-- S-4: "and its sum counts option legs only"
 unfoldable pub sameSideBelow : Settings → Terms → List Leg → Bool → Bool
-sameSideBelow st t us side = all (λ u. sameBool side (u .bought)) us && isBelow side (t .price) (sizes us * st .increment .0)
+sameSideBelow st t us side =
+    every
+    (all (λ u. sameBool side (u .bought)) us
+    ∷ sharesOn side t
+    ∷ isBelow side (t .price) (sizes us * st .increment .0)
+    ∷ [])
 
 unfoldable pub buyBuy : Settings → Terms → List Leg → Bool
 buyBuy st t us = every (isComplex t us ∷ isLimit t ∷ (sameSideBelow st t us true || sameSideBelow st t us false) ∷ [])
 
--- "23 debit/credit: complex limit order, a debit with negative price or a credit with positive; complex market order, only a credit with positive price."
+-- "23 debit/credit: complex limit order, a debit with negative price or a credit with positive; complex market order, only a credit with positive price." S-4: with shares it does "not apply".
 unfoldable pub debitCredit : Terms → List Leg → ℕ → Bool
 debitCredit t us class =
-    isComplex t us && (every (isLimit t ∷ eqb class 1 ∷ isNegative (t .price) ∷ []) || eqb class 2 && isPositive (t .price))
+    every
+    (isComplex t us
+    ∷ not (hasShares t)
+    ∷ (every (isLimit t ∷ eqb class 1 ∷ isNegative (t .price) ∷ []) || eqb class 2 && isPositive (t .price))
+    ∷ [])
 
 -- "M is the strike difference (true butterfly: middle less lowest)." Only shapes 1, 2 and 4 are asked; of two strikes one difference is 0.
 unfoldable pub maximumOf : List Leg → ℕ
@@ -89,6 +103,8 @@ allowance st m = min (st .presetmaximum .0) (max (st .presetminimum .0) (m * st 
 abbrev pub hasMaximum : ℕ → Bool
 hasMaximum shape = eqb shape 1 || eqb shape 2 || eqb shape 4
 
--- "24 maximum value: shapes 1, 2, 4, and the price's size exceeds M plus A."
+-- "24 maximum value: shapes 1, 2, 4, and the price's size exceeds M plus A." S-4: with shares it does "not apply".
 unfoldable pub maximumValue : Settings → Terms → List Leg → Bool
-maximumValue st t us = let m = maximumOf us in hasMaximum (shapeOf us) && ltb (m + allowance st m) (t .price .size .0)
+maximumValue st t us =
+    let m = maximumOf us in
+    every (not (hasShares t) ∷ hasMaximum (shapeOf us) ∷ ltb (m + allowance st m) (t .price .size .0) ∷ [])

@@ -1,9 +1,10 @@
 -- Demand 1, of each entry's definition: "gets one of document 01's numbers"; "A refusal brings its number with all other fields but a tally zero, and lent bytes keep their contents."
 use mathlib.Core.Path.{_≡_}
 use mathlib.Core.List.{List, [], _∷_, _++_, map, List·Memᴰ}
-use mathlib.Core.Bool.{true, cond, _&&_}
+use mathlib.Core.Bool.{true, cond, _&&_, _||_}
 use Prim.Native.Nat.{ℕ}
 use lib.Dec.{eqb}
+use lib.ListN.{drop}
 use lib.IntN.{pos}
 use Rattle.rules.specs.declared.SymbolParts.{SymbolParts}
 use Rattle.rules.specs.declared.SymbolRead.{SymbolRead}
@@ -21,11 +22,12 @@ use Rattle.rules.specs.Symbol.{partsOf, readSymbol, writeSymbol, SymbolW
 use Rattle.rules.specs.Order.{isYes, termsOf, seriesOf}
 use Rattle.rules.specs.Market.{settingsOf, marketOf}
 use Rattle.rules.specs.Lists.{all, any}
-use Rattle.rules.specs.Kinds.{numbers, isRefused, isRejected, kindOf}
+use Rattle.rules.specs.Kinds.{numbers, sequence, keepsTo, isRefused, isRejected, kindOf}
 use Rattle.rules.specs.Numbers.{named, refusals, rejections, checkOrder, checkSlices}
 use Rattle.rules.specs.Quote.{quoteRefusals, quoteRejections, checkQuote}
 use Rattle.rules.specs.Fix.{messageRefusals, MessageInputs, checkFix}
 use Rattle.rules.specs.Pair.{PairOrder, checkPair}
+use Rattle.rules.specs.WithoutShares.{optionRefusals, optionRejections}
 use Rattle.rules.specs.Tally.{Call, order, message, checkTallied}
 
 -- the symbol reader
@@ -58,7 +60,7 @@ abbrev anyMarket : Market
 anyMarket = marketOf []
 
 abbrev anyTerms : Terms
-anyTerms = termsOf (pos 0) 0 0 0 0
+anyTerms = termsOf (pos 0) 0 0 0 0 (pos 0)
 
 abbrev anyPrice : Mills
 anyPrice = record { 0 = 0 }
@@ -80,9 +82,12 @@ pub record OrderCheck : Type 0 where
   pub slices : (st : Settings) (m : Market) (t : Terms) (symbols counts : List ℕ) → OrderAnswers orderNumbers (checkSlices st m t symbols counts)
   pub orderRecord : (st : Settings) (m : Market) (o : Order) → OrderAnswers orderNumbers (checkOrder st m o)
 
--- the check on messages (document 02, S-1): 0, its own refusals, and the numbers of legs
+-- the check on messages (document 02, S-1): 0, its own refusals, and the numbers of legs without shares: an order in a message has none, and never gets 33
+abbrev pub optionNumbers : List ℕ
+optionNumbers = named (optionRefusals anySettings anyMarket anyTerms 0 []) ++ named (optionRejections anySettings anyMarket anyTerms [] 0)
+
 abbrev pub messageNumbers : List ℕ
-messageNumbers = 0 ∷ (named (messageRefusals []) ++ legNumbers)
+messageNumbers = 0 ∷ (named (messageRefusals []) ++ optionNumbers)
 
 abbrev pub MessageCheck : Type 0
 MessageCheck = (a : MessageInputs) (m : List ℕ) → OrderAnswers messageNumbers (checkFix a m)
@@ -132,7 +137,10 @@ pub record Numbered : Type 0 where
   pub listed : all (λ n. any (λ e. eqb n (e .0)) numbers) entryNumbers ≡ true
   pub given : all (λ e. any (eqb (e .0)) entryNumbers) numbers ≡ true
   pub kinds : map (λ e. kindOf (e .0)) numbers ≡ map (λ e. e .1) numbers
+  -- each but 0 has its place in the sequence, and in that sequence they are tested; 12 comes before all that a tallied check can give
+  pub placed : all (λ e. eqb (e .0) 0 || any (eqb (e .0)) sequence) numbers ≡ true
+  pub sequenced : all (λ ns. keepsTo sequence (drop 1 ns)) (readerNumbers ∷ writerNumbers ∷ (0 ∷ 12 ∷ drop 1 orderNumbers) ∷ (0 ∷ 12 ∷ drop 1 messageNumbers) ∷ quoteNumbers ∷ []) ≡ true
   -- which of them an order, a message and a quote can get, read off the documents once more
-  pub orders : orderNumbers ≡ 0 ∷ 1 ∷ 3 ∷ 4 ∷ 5 ∷ 6 ∷ 7 ∷ 8 ∷ 9 ∷ 10 ∷ 20 ∷ 21 ∷ 22 ∷ 23 ∷ 24 ∷ 25 ∷ []
+  pub orders : orderNumbers ≡ 0 ∷ 1 ∷ 3 ∷ 4 ∷ 5 ∷ 6 ∷ 7 ∷ 8 ∷ 33 ∷ 9 ∷ 10 ∷ 20 ∷ 21 ∷ 22 ∷ 23 ∷ 24 ∷ 25 ∷ []
   pub messages : messageNumbers ≡ 0 ∷ 30 ∷ 31 ∷ 32 ∷ 3 ∷ 4 ∷ 5 ∷ 6 ∷ 7 ∷ 8 ∷ 9 ∷ 10 ∷ 20 ∷ 21 ∷ 22 ∷ 23 ∷ 24 ∷ 25 ∷ []
   pub quotes : quoteNumbers ≡ 0 ∷ 1 ∷ 4 ∷ 9 ∷ 10 ∷ 11 ∷ 20 ∷ 21 ∷ 26 ∷ []

@@ -37,7 +37,7 @@ module _ {A : Type 0} where
   Hold es = given es ≡ expected es
 
 abbrev limit : ℤ → Terms
-limit price = termsOf price 0 0 0 0
+limit price = termsOf price 0 0 0 0 (pos 0)
 
 abbrev usual : Settings
 usual = exampleSettings 0
@@ -161,17 +161,17 @@ paid =
     ∷ (call21 (settingsOf (changed 18 2 exampleSlice)) (underlyingOf 10000) (limit (pos 10000)), 0)
     ∷ (call21 usual (market 1 0 2 10000 0 0 0 0 0) (limit (pos 10000)), 0)
     -- market orders in the opening process, and not; limit orders in it
-    ∷ (call21 usual (underlyingOf 10000) (termsOf (pos 10000) 2 0 0 2), 0)
-    ∷ (call21 usual (underlyingOf 10000) (termsOf (pos 10000) 2 0 0 0), 21)
-    ∷ (call21 usual (underlyingOf 10000) (termsOf (pos 10000) 0 0 0 2), 21)
+    ∷ (call21 usual (underlyingOf 10000) (termsOf (pos 10000) 2 0 0 2 (pos 0)), 0)
+    ∷ (call21 usual (underlyingOf 10000) (termsOf (pos 10000) 2 0 0 0 (pos 0)), 21)
+    ∷ (call21 usual (underlyingOf 10000) (termsOf (pos 10000) 0 0 0 2 (pos 0)), 21)
     -- European index style, stop and manual orders: tested
     ∷ (call21 (exampleSettings 2) (underlyingOf 10000) (limit (pos 10000)), 21)
-    ∷ (call21 usual (underlyingOf 10000) (termsOf (pos 10000) 0 2 0 0), 21)
-    ∷ (call21 usual (underlyingOf 10000) (termsOf (pos 10000) 0 0 2 0), 21)
+    ∷ (call21 usual (underlyingOf 10000) (termsOf (pos 10000) 0 2 0 0 (pos 0)), 21)
+    ∷ (call21 usual (underlyingOf 10000) (termsOf (pos 10000) 0 0 2 0 (pos 0)), 21)
     -- 20: the same
-    ∷ (put20 (termsOf (pos 18000) 1 0 0 1), 0)
-    ∷ (put20 (termsOf (pos 18000) 1 0 0 0), 20)
-    ∷ (put20 (termsOf (pos 18000) 0 0 0 1), 20)
+    ∷ (put20 (termsOf (pos 18000) 1 0 0 1 (pos 0)), 0)
+    ∷ (put20 (termsOf (pos 18000) 1 0 0 0 (pos 0)), 20)
+    ∷ (put20 (termsOf (pos 18000) 0 0 0 1 (pos 0)), 20)
     -- a put at the underlying, a call at its strike
     ∷ (number usual (underlyingOf 10000) (limit (pos 10000)) (puts (pos 1) 18 ∷ []), 0)
     ∷ (number usual exampleMarket (limit (pos 5000)) (calls (pos 1) 5 ∷ []), 0)
@@ -193,12 +193,12 @@ sides =
     ∷ (number usual exampleMarket (limit (minus 5000)) bought, 22)
     ∷ (number usual exampleMarket (limit (pos 5000)) (calls (minus 1) 45 ∷ calls (minus 1) 50 ∷ []), 22)
     -- not of market orders
-    ∷ (number usual exampleMarket (termsOf (pos 19) 2 0 0 0) bought, 0)
+    ∷ (number usual exampleMarket (termsOf (pos 19) 2 0 0 0 (pos 0)) bought, 0)
     -- 23: a debit received, by a limit and by a market order; a credit paid, likewise; at zero
     ∷ (number usual exampleMarket (limit (minus 1)) vertical, 23)
-    ∷ (number usual exampleMarket (termsOf (minus 1) 2 0 0 0) vertical, 0)
+    ∷ (number usual exampleMarket (termsOf (minus 1) 2 0 0 0 (pos 0)) vertical, 0)
     ∷ (number usual exampleMarket (limit (pos 1)) sold, 23)
-    ∷ (number usual exampleMarket (termsOf (pos 1) 2 0 0 0) sold, 23)
+    ∷ (number usual exampleMarket (termsOf (pos 1) 2 0 0 0 (pos 0)) sold, 23)
     ∷ (number usual exampleMarket (limit (pos 0)) vertical, 0)
     ∷ (number usual exampleMarket (limit (pos 0)) sold, 0)
     ∷ []
@@ -290,10 +290,10 @@ without =
 -- 25 of stop, manual and market orders, of a limit order in the opening process, and of two legs
 abbrev flags : List (ℕ × ℕ)
 flags =
-    (number usual (market 1 0 0 0 0 1200 0 0 0) (termsOf (pos 1251) 0 2 0 0) (calls (pos 1) 20 ∷ []), 0)
-    ∷ (number usual (market 1 0 0 0 0 1200 0 0 0) (termsOf (pos 1251) 0 0 2 0) (calls (pos 1) 20 ∷ []), 0)
-    ∷ (number usual (market 1 0 0 0 0 1200 0 0 0) (termsOf (pos 1251) 2 0 0 0) (calls (pos 1) 20 ∷ []), 0)
-    ∷ (number usual (market 1 0 0 0 0 1200 0 0 0) (termsOf (pos 1251) 0 0 0 2) (calls (pos 1) 20 ∷ []), 25)
+    (number usual (market 1 0 0 0 0 1200 0 0 0) (termsOf (pos 1251) 0 2 0 0 (pos 0)) (calls (pos 1) 20 ∷ []), 0)
+    ∷ (number usual (market 1 0 0 0 0 1200 0 0 0) (termsOf (pos 1251) 0 0 2 0 (pos 0)) (calls (pos 1) 20 ∷ []), 0)
+    ∷ (number usual (market 1 0 0 0 0 1200 0 0 0) (termsOf (pos 1251) 2 0 0 0 (pos 0)) (calls (pos 1) 20 ∷ []), 0)
+    ∷ (number usual (market 1 0 0 0 0 1200 0 0 0) (termsOf (pos 1251) 0 0 0 2 (pos 0)) (calls (pos 1) 20 ∷ []), 25)
     ∷ (number usual (market 1 0 0 0 0 1200 0 0 0) (limit (pos 1251)) vertical, 0)
     ∷ []
 
@@ -379,9 +379,9 @@ call = calls (pos 1) 20 .symbol
 abbrev put : List ℕ
 put = puts (pos 1) 20 .symbol
 
--- the order record of one leg sold, where zero may come as received: it is neither sign
+-- the order record of one leg sold, where zero may come as received: it is neither sign; and no shares are none, on either side
 abbrev soldAt : Price → ℕ
-soldAt price = checkOrder usual exampleMarket (record { legs = rawLeg call (calls (minus 1) 20 .count) ∷ []; len = 1; terms = record { price = price; kind = 0; stop = 0; manual = 0; opening = 0 } }) .number
+soldAt price = checkOrder usual exampleMarket (record { legs = rawLeg call (calls (minus 1) 20 .count) ∷ []; len = 1; terms = record { price = price; kind = 0; stop = 0; manual = 0; opening = 0; shares = record { bought = false; size = 0 } } }) .number
 
 abbrev zeros : List (ℕ × ℕ)
 zeros =

@@ -61,7 +61,7 @@ exampleMarket =
 
 -- "Limit orders; no flags"
 abbrev pub exampleTerms : ℤ → Terms
-exampleTerms price = termsOf price 0 0 0 0
+exampleTerms price = termsOf price 0 0 0 0 (pos 0)
 
 -- a count's two's complement
 abbrev pub bits : ℤ → ℕ

@@ -280,9 +280,9 @@ pub record MessageInputs : Type 0 where
   pub manual : ℕ
   pub opening : ℕ
 
--- the order check on an order that a message says
+-- the order check on an order that a message says; its share count is "0 for none and from FIX" (S-4)
 abbrev pub checkSaid : MessageInputs → SaidOrder → OrderAnswer
-checkSaid a o = checkLegs (a .settings) (a .market) (termsOf (o .price) (o .kind) (a .stop) (a .manual) (a .opening)) (length (o .legs)) (o .legs)
+checkSaid a o = checkLegs (a .settings) (a .market) (termsOf (o .price) (o .kind) (a .stop) (a .manual) (a .opening) (pos 0)) (length (o .legs)) (o .legs)
 
 -- "The answer equals the order check's on the legs read"; the three numbers come "before all else"
 unfoldable pub checkFix : MessageInputs → List ℕ → OrderAnswer

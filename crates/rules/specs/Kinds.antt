@@ -1,8 +1,8 @@
 -- Document 01, Number and its author, and the numbers that document 02's requests add: every number, and what it says.
 use mathlib.Core.List.{List, [], _∷_}
-use mathlib.Core.Bool.{Bool, cond, not, _||_}
-use Prim.Native.Nat.{ℕ}
-use lib.Dec.{eqb}
+use mathlib.Core.Bool.{Bool, true, cond, not, _&&_, _||_}
+use Prim.Native.Nat.{ℕ, suc}
+use lib.Dec.{eqb, ltb}
 use Rattle.rules.specs.Limits.{within}
 
 pub data Kind : Type 0 where
@@ -36,7 +36,23 @@ numbers =
     ∷ (30, refuses)
     ∷ (31, refuses)
     ∷ (32, refuses)
+    ∷ (33, refuses)
     ∷ []
+
+-- the sequence in which they are tested: "The lowest number that applies is given, except that 12 comes first"; document 02 tests 30 to 32 "before all else" but 12, and 33 "after 8 and before 9"
+abbrev pub sequence : List ℕ
+sequence = 12 ∷ 30 ∷ 31 ∷ 32 ∷ 1 ∷ 2 ∷ 3 ∷ 4 ∷ 5 ∷ 6 ∷ 7 ∷ 8 ∷ 33 ∷ 9 ∷ 10 ∷ 11 ∷ 20 ∷ 21 ∷ 22 ∷ 23 ∷ 24 ∷ 25 ∷ 26 ∷ []
+
+-- a number's place in such a list
+abbrev pub placeIn : List ℕ → ℕ → ℕ
+placeIn [] n = 0
+placeIn (m ∷ ms) n = cond (eqb n m) 0 (suc (placeIn ms n))
+
+-- whether numbers come in the sequence of such a list
+abbrev pub keepsTo : List ℕ → List ℕ → Bool
+keepsTo ms [] = true
+keepsTo ms (n ∷ []) = true
+keepsTo ms (n ∷ k ∷ ns) = ltb (placeIn ms n) (placeIn ms k) && keepsTo ms (k ∷ ns)
 
 abbrev pub isAccepted : ℕ → Bool
 isAccepted n = eqb n 0

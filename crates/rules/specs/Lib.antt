@@ -17,11 +17,13 @@ pub mod Fix
 pub mod Tally
 pub mod Pair
 pub mod OpenContracts
+pub mod WithoutShares
 pub mod Examples
 pub mod Edges
 pub mod Texts
 pub mod Messages
 pub mod Pairs
 pub mod Figures
+pub mod StockOrders
 pub mod Demand1
 pub mod Demand2

@@ -1,4 +1,4 @@
--- Document 01, Number and its author: the order check's whole answer.
+-- Document 01, Number and its author, with document 02's 33: the order check's whole answer.
 use mathlib.Core.List.{List, [], _∷_}
 use mathlib.Core.Bool.{Bool, cond, not, _&&_, _||_}
 use Prim.Native.Nat.{ℕ, zero, suc, _*_, _/_, _%_}
@@ -52,7 +52,11 @@ isBadPrice t ls =
     ltb 1000000000000 (t .price .size .0)
     || isSimple t ls && all (λ l. not (cond (l .bought) (isPositive (t .price)) (isNegative (t .price)))) ls
 
--- "3 no leg or above 16; 4 a symbol or its parts outside the layout; 5 a count outside its limits; 6 a series twice; 7 roots differ; 8 price too large, or [..]"; "9 one outside its limits"; "10 a market value or phase outside its limits". `n` is the number of legs.
+-- S-4: "up to 1,000,000 in size"
+unfoldable pub isBadShares : Terms → Bool
+isBadShares t = ltb 1000000 (t .shares .size)
+
+-- "3 no leg or above 16; 4 a symbol or its parts outside the layout; 5 a count outside its limits; 6 a series twice; 7 roots differ; 8 price too large, or [..]"; "9 one outside its limits"; "10 a market value or phase outside its limits"; of S-4 "33 for a share count beyond the limit, tested after 8 and before 9". `n` is the number of legs.
 abbrev pub refusals : Settings → Market → Terms → ℕ → List RawLeg → List (Bool × ℕ)
 refusals st m t n rs =
     let ls = legsOf rs in
@@ -62,6 +66,7 @@ refusals st m t n rs =
     ∷ (somePair isSameSeries ls, 6)
     ∷ (somePair isOtherRoot ls, 7)
     ∷ (isBadPrice t ls, 8)
+    ∷ (isBadShares t, 33)
     ∷ (not (settingsHold st), 9)
     ∷ (not (marketHolds m), 10)
     ∷ []
@@ -127,7 +132,8 @@ pub record Inputs : Type 0 where
   pub stop : ℕ
   pub manual : ℕ
   pub opening : ℕ
+  pub shares : ℤ
 
 -- "The order check has no memory; an arrival in demand 3 is one call of it": the order check on symbol bytes and count bytes
 abbrev pub answerTo : Inputs → List ℕ → List ℕ → OrderAnswer
-answerTo a symbols counts = checkSlices (a .settings) (a .market) (termsOf (a .price) (a .kind) (a .stop) (a .manual) (a .opening)) symbols counts
+answerTo a symbols counts = checkSlices (a .settings) (a .market) (termsOf (a .price) (a .kind) (a .stop) (a .manual) (a .opening) (a .shares)) symbols counts

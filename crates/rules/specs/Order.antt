@@ -1,13 +1,14 @@
--- Document 01, Order.
+-- Document 01, Order, and document 02, S-4: the shares attached.
 use mathlib.Core.Path.{_≡_}
 use mathlib.Core.List.{List, [], _∷_, _++_, map}
-use mathlib.Core.Bool.{Bool, true, false, cond, not}
+use mathlib.Core.Bool.{Bool, true, false, cond, not, _&&_}
 use Prim.Native.Nat.{ℕ, zero, suc, _+_, _-_, _*_, _/_, _%_, _^_}
 use lib.ListN.{length, take, drop}
 use lib.Dec.{eqb, ltb}
 use lib.IntN.{ℤ, pos, negsuc, negℤ, _+ℤ_, _*ℤ_}
 use Rattle.rules.specs.declared.RawLeg.{RawLeg}
 use Rattle.rules.specs.declared.Price.{Price}
+use Rattle.rules.specs.declared.Shares.{Shares}
 use Rattle.rules.specs.declared.Terms.{Terms}
 use Rattle.rules.specs.declared.Order.{Order}
 use Rattle.rules.specs.declared.Series.{Series}
@@ -61,18 +62,35 @@ pub record Recorded (n : ℕ) (rs : List RawLeg) (t : Terms) (o : Order) : Type 
   pub len : o .len ≡ n
   pub terms : o .terms ≡ t
 
+-- a signed number's size, and whether it is below zero
+abbrev pub sizeOf : ℤ → ℕ
+sizeOf (pos n) = n
+sizeOf (negsuc n) = suc n
+
+abbrev pub isBelowZero : ℤ → Bool
+isBelowZero (pos n) = false
+isBelowZero (negsuc n) = true
+
 -- "The price is for one unit: positive paid (net debit), negative received (net credit)"
 unfoldable pub priceOf : ℤ → Price
-priceOf (pos n) = record { received = false; size = record { 0 = n } }
-priceOf (negsuc n) = record { received = true; size = record { 0 = suc n } }
+priceOf z = record { received = isBelowZero z; size = record { 0 = sizeOf z } }
 
 -- the integer that a price stands for
 abbrev pub signedPrice : Price → ℤ
 signedPrice p = cond (p .received) (negℤ (pos (p .size .0))) (pos (p .size .0))
 
--- kind and flags as the host hands them in
-abbrev pub termsOf : ℤ → ℕ → ℕ → ℕ → ℕ → Terms
-termsOf price kind stop manual opening = record { price = priceOf price; kind = kind; stop = stop; manual = manual; opening = opening }
+-- S-4: "a signed share count, 0 for none", which as a leg's count is "positive to buy, negative to sell"
+unfoldable pub sharesOf : ℤ → Shares
+sharesOf z = record { bought = not (isBelowZero z); size = sizeOf z }
+
+-- the integer that a share count stands for
+abbrev pub signedShares : Shares → ℤ
+signedShares s = cond (s .bought) (pos (s .size)) (negℤ (pos (s .size)))
+
+-- what an order says beside its legs, as the host hands it in
+abbrev pub termsOf : ℤ → ℕ → ℕ → ℕ → ℕ → ℤ → Terms
+termsOf price kind stop manual opening shares =
+    record { price = priceOf price; kind = kind; stop = stop; manual = manual; opening = opening; shares = sharesOf shares }
 
 -- a leg as read: the series is the symbol's type, expiry and strike; the expiry's number is in the order of dates
 abbrev pub seriesOf : SymbolParts → Series
@@ -111,9 +129,13 @@ divided g l = record { root = l .root; series = l .series; bought = l .bought; s
 unfoldable pub units : List Leg → List Leg
 units ls = map (divided (commonDivisor ls)) ls
 
--- "One leg is a simple order, two or more a complex order.", whatever the terms say. An order of no leg, which is refused, counts as complex.
+-- S-4: shares are attached
+unfoldable pub hasShares : Terms → Bool
+hasShares t = isYes (t .shares .size)
+
+-- "One leg is a simple order, two or more a complex order."; with shares "Such an order is complex even with one option leg" (S-4). An order of no leg, which is refused, counts as complex.
 unfoldable pub isSimple : Terms → List Leg → Bool
-isSimple t ls = eqb (length ls) 1
+isSimple t ls = not (hasShares t) && eqb (length ls) 1
 
 abbrev pub isComplex : Terms → List Leg → Bool
 isComplex t ls = not (isSimple t ls)

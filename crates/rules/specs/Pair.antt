@@ -21,9 +21,10 @@ pub record PairOrder : Type 0 where
   pub stop : ℕ
   pub manual : ℕ
   pub opening : ℕ
+  pub shares : ℤ
 
 abbrev pub inputsFor : Settings → Market → PairOrder → Inputs
-inputsFor st m o = record { settings = st; market = m; price = o .price; kind = o .kind; stop = o .stop; manual = o .manual; opening = o .opening }
+inputsFor st m o = record { settings = st; market = m; price = o .price; kind = o .kind; stop = o .stop; manual = o .manual; opening = o .opening; shares = o .shares }
 
 -- an order's own number, by the order check
 abbrev pub ownNumber : Settings → Market → PairOrder → ℕ
@@ -71,7 +72,7 @@ pub record Passing (unpaired : ℕ) (r : PairAnswer) : Type 0 where
 
 -- "both own numbers": what the order check gives for that order alone
 abbrev pub IsOwn : Settings → Market → PairOrder → ℕ → Type 0
-IsOwn st m o n = n ≡ checkSlices st m (termsOf (o .price) (o .kind) (o .stop) (o .manual) (o .opening)) (o .symbols) (o .counts) .number
+IsOwn st m o n = n ≡ checkSlices st m (termsOf (o .price) (o .kind) (o .stop) (o .manual) (o .opening) (o .shares)) (o .symbols) (o .counts) .number
 
 pub record PairTheorem : Type 0 where
   pub passing : (st : Settings) (m : Market) (unpaired : ℕ) (agency contra : PairOrder) → Passing unpaired (checkPair st m unpaired agency contra)

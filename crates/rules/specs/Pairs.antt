@@ -14,10 +14,14 @@ use Rattle.rules.specs.Pair.{PairOrder, paired, checkPair}
 abbrev answer : ℕ → ℕ → ℕ → ℕ → PairAnswer
 answer agency a contra c = record { agency = record { number = agency; passes = a }; contra = record { number = contra; passes = c } }
 
--- an order by its legs, price, kind and flags
+-- an order by its legs, price, kind, flags and shares
+abbrev shared : List Lent → ℤ → ℕ → ℕ → ℕ → ℕ → ℤ → PairOrder
+shared ls price kind stop manual opening shares =
+    record { symbols = symbolsOf ls; counts = countsOf ls; price = price; kind = kind; stop = stop; manual = manual; opening = opening; shares = shares }
+
+-- without shares
 abbrev ordered : List Lent → ℤ → ℕ → ℕ → ℕ → ℕ → PairOrder
-ordered ls price kind stop manual opening =
-    record { symbols = symbolsOf ls; counts = countsOf ls; price = price; kind = kind; stop = stop; manual = manual; opening = opening }
+ordered ls price kind stop manual opening = shared ls price kind stop manual opening (pos 0)
 
 -- a limit order with no flags
 abbrev limit : ℤ → List Lent → PairOrder
@@ -35,7 +39,7 @@ abbrev empty : PairOrder
 empty = limit (pos 5000) []
 
 abbrev broken : PairOrder
-broken = record { symbols = []; counts = 1 ∷ []; price = pos 5000; kind = 0; stop = 0; manual = 0; opening = 0 }
+broken = record { symbols = []; counts = 1 ∷ []; price = pos 5000; kind = 0; stop = 0; manual = 0; opening = 0; shares = pos 0 }
 
 -- under the settings and the market of the examples
 abbrev plain : ℕ → PairOrder → PairOrder → PairAnswer
@@ -63,6 +67,10 @@ put opening = ordered (puts (pos 1) 18 ∷ []) (pos 18000) 1 0 0 opening
 -- a debit received: 23, of a market order 0
 abbrev received : ℕ → PairOrder
 received kind = ordered (calls (pos 1) 20 ∷ calls (minus 1) 30 ∷ []) (minus 5000) kind 0 0 0
+
+-- S-4: a call sold for less than the net increment, 22 with shares sold, and 0 with shares bought
+abbrev covered : ℤ → PairOrder
+covered shares = shared (calls (minus 1) 20 ∷ []) (minus 9) 0 0 0 0 shares
 
 -- the pair of source document 004, calls of March: the agency order sells at the market, the contra order buys at a limit of 0
 abbrev selling : PairOrder
@@ -117,7 +125,7 @@ pub record Pairs : Type 0 where
       ∷ (checkPair (settingsOf []) exampleMarket 1 (call 1250 0 0) (call 1250 0 0), answer 9 0 9 0)
       ∷ (checkPair (exampleSettings 0) (marketOf []) 1 (call 1250 0 0) (call 1250 0 0), answer 10 0 10 0)
       ∷ [])
-  -- legs, price, kind and flags are each order's own
+  -- legs, price, kind, flags and shares are each order's own
   pub own : Hold (
       (offered (call 1250 0 0) (put 0), answer 0 0 20 0)
       ∷ (offered (put 0) (call 1250 0 0), answer 20 0 0 0)
@@ -129,6 +137,10 @@ pub record Pairs : Type 0 where
       ∷ (offered (put 0) (put 1), answer 20 0 0 0)
       ∷ (offered (received 1) (received 0), answer 0 0 23 0)
       ∷ (offered (received 0) (received 1), answer 23 0 0 0)
+      ∷ (offered (covered (pos 100)) (covered (minus 100)), answer 0 0 22 0)
+      ∷ (offered (covered (minus 100)) (covered (pos 100)), answer 22 0 0 0)
+      ∷ (offered (covered (minus 1000001)) (covered (pos 100)), answer 33 0 0 0)
+      ∷ (offered (covered (pos 100)) (covered (pos 1000001)), answer 0 0 33 0)
       ∷ [])
   -- 004: "the AIM auction will not initiate because the contra-side order does not satisfy the price check parameter"; marked, the agency order goes on
   pub paper : Hold ((plain 0 selling buying, answer 0 0 22 0) ∷ (plain 1 selling buying, answer 0 1 22 0) ∷ [])

@@ -38,6 +38,12 @@ pub struct Price {
     pub size: Mills,
 }
 
+// The shares attached to an order: the share count's size and side. A size of 0 is no shares, on either side.
+pub struct Shares {
+    pub size: u64,
+    pub bought: bool,
+}
+
 // What an order says beside its legs. Kind: 0 is limit, any other value market. Flags: 0 is no, any other value yes.
 pub struct Terms {
     pub price: Price,
@@ -45,6 +51,7 @@ pub struct Terms {
     pub stop: u64,
     pub manual: u64,
     pub opening: u64,
+    pub shares: Shares,
 }
 
 // An order record: up to 16 legs. A greater length is an input like any other.

@@ -1,8 +1,8 @@
 -- The definitions as the code computes them.
-use mathlib.Core.Path.{_≡_, refl, _∙_}
+use mathlib.Core.Path.{_≡_, refl, sym, _∙_}
 use mathlib.Core.List.{List, [], _∷_}
-use mathlib.Core.Bool.{Bool, true, false, not, _&&_}
-use Prim.Native.Nat.{ℕ, zero, suc, _+_, _-_, _*_, _<_, min, max}
+use mathlib.Core.Bool.{Bool, true, false, not, _&&_, _||_, true≢false}
+use Prim.Native.Nat.{ℕ, zero, suc, _+_, _-_, _*_, min, max}
 use native.Mathlib.Omega.{arith}
 use lib.Dec.{eqb, ltb}
 use lib.ListN.{length, take, getD}
@@ -12,17 +12,10 @@ use Rattle.rules.specs.declared.Series.{Series}
 use Rattle.rules.specs.Lists.{every}
 use Rattle.rules.specs.Pairing.{oneExpiry}
 use Rattle.rules.specs.Class.{strikeOf, isOf, opposite, isVertical, between, isButterfly, isTrueButterfly, isBox, shapeOf}
-use Rattle.rules.proofs.Tests.{joined}
+use Rattle.rules.proofs.Tests.{every-three, joined}
 use Rattle.keys.specs.Tags.{legAt, legsIn}
 use Rattle.strikes.proofs.Listed.{shown}
 use Rattle.shape.specs.Box.{boxSeries, boxSides}
-
-every-three : (a b c : Bool) → (a && b) && c ≡ every (a ∷ b ∷ c ∷ [])
-unfolding every
-every-three false b c = refl
-every-three true false c = refl
-every-three true true false = refl
-every-three true true true = refl
 
 pub every-four : (a b c d : Bool) → (a && b) && (c && d) ≡ every (a ∷ b ∷ c ∷ d ∷ [])
 unfolding every
@@ -94,14 +87,14 @@ module _ (a m b : Leg) {low high : ℕ}
       go true e = let f = eqb-true twice sum e in eq-eqb low high (omega arith)
       go false e = ne-eqb low high (λ f. eqb-false twice sum e (omega arith))
 
--- five legs and more have no shape
-shape-none : (a b c d e : Leg) (r : List Leg) (n : ℕ) → 4 < n → 0 ≡ shapeOf (take n (a ∷ b ∷ c ∷ d ∷ e ∷ r))
+-- fewer than two legs and more than four have no shape
+shape-none : (a b c d e : Leg) (r : List Leg) (n : ℕ) → ltb n 2 || ltb 4 n ≡ true → 0 ≡ shapeOf (take n (a ∷ b ∷ c ∷ d ∷ e ∷ r))
 unfolding shapeOf
-shape-none a b c d e r zero h = absurd (omega arith)
-shape-none a b c d e r (suc zero) h = absurd (omega arith)
-shape-none a b c d e r (suc (suc zero)) h = absurd (omega arith)
-shape-none a b c d e r (suc (suc (suc zero))) h = absurd (omega arith)
-shape-none a b c d e r (suc (suc (suc (suc zero)))) h = absurd (omega arith)
+shape-none a b c d e r zero h = refl
+shape-none a b c d e r (suc zero) h = refl
+shape-none a b c d e r (suc (suc zero)) h = absurd (true≢false (sym h))
+shape-none a b c d e r (suc (suc (suc zero))) h = absurd (true≢false (sym h))
+shape-none a b c d e r (suc (suc (suc (suc zero)))) h = absurd (true≢false (sym h))
 shape-none a b c d e r (suc (suc (suc (suc (suc n))))) h = refl
 
 -- The shape by the legs that the code takes: no shape looks at a root, so that of root 0 is that of any other.
@@ -113,8 +106,8 @@ module _ (tags units : List ℕ) (long : length tags ≡ 16) (full : length unit
   abbrev Shape : ℕ → Type 0
   Shape r = (root : ℕ) → r ≡ shapeOf (legsIn root false n tags units)
 
-  pub shape-more : 4 < n → Shape 0
-  shape-more h root = shown tags units long full root shapeOf n n refl (shape-none _ _ _ _ _ _ n h)
+  pub shape-other : ltb n 2 || ltb 4 n ≡ true → Shape 0
+  shape-other h root = shown tags units long full root shapeOf n n refl (shape-none _ _ _ _ _ _ n h)
 
   pub shape-two : {a b : Leg} {r : ℕ} → n ≡ 2 → a ≡ taken 0 → b ≡ taken 1 → r ≡ shapeOf (a ∷ b ∷ []) → Shape r
   unfolding shapeOf isVertical

@@ -11,7 +11,7 @@ use strikes::below_higher;
 ghost use mathlib.Core.Path.{_≡_};
 ghost use mathlib.Core.Bool.{false};
 ghost use mathlib.Core.List.{[], _∷_};
-ghost use Prim.Native.Nat.{ℕ, _≤_};
+ghost use Prim.Native.Nat.{ℕ};
 ghost use lib.ListN.{length};
 ghost use Rattle.rules.specs.Lists.{every};
 ghost use Rattle.rules.specs.Pairing.{oneExpiry};
@@ -147,12 +147,12 @@ fn shape_of_four(p: Leg, q: Leg, d: Leg, c: Leg) -> u64
     pick(is_box(p, q, d, c), 4, 0)
 }
 
-// The shape of unit legs in the first walk's sequence. No shape has more than four legs.
+// The shape of unit legs in the first walk's sequence. Every shape has two to four legs.
 pub fn shape_of(tags: &[u64; 16], units: &[u64; 16], n: usize) -> u64
-    requires { ⌜ (2 ≤ n) × (length (now tags) ≡ 16) × (length (now units) ≡ 16) ⌝ }
+    requires { ⌜ (length (now tags) ≡ 16) × (length (now units) ≡ 16) ⌝ }
     ensures { λ r. ⌜ ((root : ℕ) → r ≡ shapeOf (legsIn root false n (now (tags .entry)) (now (units .entry)))) ⌝ }
 {
-    if 4 < n {
+    if either(n < 2, 4 < n) {
         return 0;
     }
     let a = leg_at(tags[0], units[0]);

@@ -1,6 +1,6 @@
--- A signed 64-bit number that is negative, or not, as the machine has it.
+-- A signed 64-bit number that is negative, or not, as the machine has it, and the records made of such numbers.
 use mathlib.Core.Path.{_≡_, refl, sym, ap, _∙_}
-use mathlib.Core.Bool.{true, false}
+use mathlib.Core.Bool.{Bool, true, false, not}
 use Prim.Native.Nat.{ℕ, zero, suc, _+_, _<_, _^_}
 use native.Mathlib.Omega.{arith}
 use native.Mathlib.Numerals.{add-one}
@@ -10,7 +10,9 @@ use borrow.Author.Tests.{ltb-true}
 use mir.Syntax.{w64}
 use mir.Val.{SFits, toZ, ofZ}
 use mir.ValLaws.{toZ-ofZ}
-use Rattle.rules.specs.Order.{priceOf}
+use Rattle.rules.specs.declared.Price.{Price}
+use Rattle.rules.specs.declared.Shares.{Shares}
+use Rattle.rules.specs.Order.{sizeOf, isBelowZero, priceOf, sharesOf, termsOf}
 
 -- what a local of 64 bits holds of `p`
 abbrev pub held : ℤ → ℤ
@@ -43,9 +45,8 @@ negative (negsuc n) f h =
     let g : SFits w64 (pos n) = record { sfits = f .sfits } in
     record { n = n; is = refl; small = f .sfits; up = rw e u; down = rw d g; size = ap held d ∙ toZ-ofZ w64 (pos n) g }
 
-pub price-received : {p : ℤ} (g : Negative p) → record { received = true; size = record { 0 = g .n + 1 } } ≡ priceOf p
-unfolding priceOf
-price-received g = rw add-one (sym (ap priceOf (g .is)))
+pub size-below : {p : ℤ} (g : Negative p) → g .n + 1 ≡ sizeOf p
+size-below g = add-one (g .n) ∙ sym (ap sizeOf (g .is))
 
 -- of one that is not
 pub record NotNegative (p : ℤ) : Type 0 where
@@ -61,6 +62,27 @@ not-negative (negsuc n) f h =
     let z : _≡_ {A = ℕ} 0 1 = cc in
     absurd (omega arith)
 
-pub price-paid : {p : ℤ} (g : NotNegative p) → record { received = false; size = record { 0 = g .n } } ≡ priceOf p
+pub size-from : {p : ℤ} (g : NotNegative p) → g .n ≡ sizeOf p
+size-from g = sym (ap sizeOf (g .is))
+
+-- the test's answer
+pub sign : (p : ℤ) → SFits w64 p → ltZ (held p) (pos 0) ≡ isBelowZero p
+sign p f = go (ltZ (held p) (pos 0)) refl
+  where
+    go : (b : Bool) → ltZ (held p) (pos 0) ≡ b → b ≡ isBelowZero p
+    go true h = sym (ap isBelowZero (negative p f h .is))
+    go false h = sym (ap isBelowZero (not-negative p f h .is))
+
+-- ---- the records, from their fields
+
+pub priced : (z : ℤ) {received : Bool} {size : ℕ} → received ≡ isBelowZero z → size ≡ sizeOf z → record { received = received; size = record { 0 = size } } ≡ priceOf z
 unfolding priceOf
-price-paid g = sym (ap priceOf (g .is))
+priced z p q = λ i. record { received = p i; size = record { 0 = q i } }
+
+pub shared : (z : ℤ) {bought : Bool} {size : ℕ} → bought ≡ not (isBelowZero z) → size ≡ sizeOf z → record { bought = bought; size = size } ≡ sharesOf z
+unfolding sharesOf
+shared z p q = λ i. record { bought = p i; size = q i }
+
+pub termed : (price : ℤ) (kind stop manual opening : ℕ) (n : ℤ) {p : Price} {s : Shares} → p ≡ priceOf price → s ≡ sharesOf n
+    → record { price = p; kind = kind; stop = stop; manual = manual; opening = opening; shares = s } ≡ termsOf price kind stop manual opening n
+termed price kind stop manual opening n p s = λ i. record { price = p i; kind = kind; stop = stop; manual = manual; opening = opening; shares = s i }

@@ -3,45 +3,62 @@ use choice::both;
 use choice::negated;
 use rules::Mills;
 use rules::Price;
+use rules::Shares;
 use rules::Terms;
 ghost use mathlib.Core.Path.{_≡_};
 ghost use mathlib.Core.List.{List};
 ghost use lib.ListN.{length};
 ghost use Rattle.rules.specs.declared.Leg.{Leg};
-ghost use Rattle.rules.specs.Order.{priceOf, termsOf, isSimple};
+ghost use Rattle.rules.specs.Order.{sizeOf, priceOf, sharesOf, termsOf, hasShares, isSimple};
 ghost use Rattle.rules.specs.Checks.{isPositive, isNegative};
+
+// A signed number's size.
+fn size_of(z: i64) -> u64
+    ensures { λ r. ⌜ r ≡ sizeOf z ⌝ }
+{
+    if z < 0 {
+        // The least integer has no opposite: one is added before the sign turns, and again after.
+        let less = -(z + 1);
+        return (less as u64) + 1;
+    }
+    z as u64
+}
 
 // The price's sign and size.
 pub fn price_of(price: i64) -> Price
     ensures { λ r. ⌜ r ≡ priceOf price ⌝ }
 {
-    if price < 0 {
-        // The least integer has no opposite: one is added before the sign turns, and again after.
-        let less = -(price + 1);
-        let size = (less as u64) + 1;
-        return Price {
-            received: true,
-            size: Mills(size),
-        };
-    }
-    let size = price as u64;
+    let size = size_of(price);
     Price {
-        received: false,
+        received: price < 0,
         size: Mills(size),
     }
 }
 
+// The share count's side and size.
+pub fn shares_of(shares: i64) -> Shares
+    ensures { λ r. ⌜ r ≡ sharesOf shares ⌝ }
+{
+    let size = size_of(shares);
+    Shares {
+        bought: negated(shares < 0),
+        size: size,
+    }
+}
+
 // What an order says beside its legs, as the host hands it in.
-pub fn terms_of(price: i64, kind: u64, stop: u64, manual: u64, opening: u64) -> Terms
-    ensures { λ r. ⌜ r ≡ termsOf price kind stop manual opening ⌝ }
+pub fn terms_of(price: i64, kind: u64, stop: u64, manual: u64, opening: u64, shares: i64) -> Terms
+    ensures { λ r. ⌜ r ≡ termsOf price kind stop manual opening shares ⌝ }
 {
     let signed = price_of(price);
+    let attached = shares_of(shares);
     Terms {
         price: signed,
         kind: kind,
         stop: stop,
         manual: manual,
         opening: opening,
+        shares: attached,
     }
 }
 
@@ -57,9 +74,17 @@ pub fn is_negative(p: Price) -> bool
     both(p.received, 0 < p.size.0)
 }
 
-// Whether an order of so many legs is simple, whatever its terms say. It is complex otherwise.
+// Whether shares are attached.
+pub fn has_shares(t: Terms) -> bool
+    ensures { λ r. ⌜ r ≡ hasShares t ⌝ }
+{
+    t.shares.size != 0
+}
+
+// Whether an order of so many legs is simple. It is complex otherwise.
 pub fn is_simple(t: Terms, legs: usize) -> bool
     ensures { λ r. ⌜ ((ls : List Leg) → length ls ≡ legs → r ≡ isSimple t ls) ⌝ }
 {
-    legs == 1
+    let none = negated(has_shares(t));
+    both(none, legs == 1)
 }

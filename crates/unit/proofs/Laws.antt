@@ -2,6 +2,7 @@
 use mathlib.Core.Path.{_≡_}
 use mathlib.Core.List.{List}
 use Prim.Native.Nat.{ℕ}
+use lib.IntN.{ℤ}
 use Rattle.rules.specs.declared.Terms.{Terms}
 use Rattle.rules.specs.declared.Settings.{Settings}
 use Rattle.rules.specs.declared.Market.{Market}
@@ -9,17 +10,16 @@ use Rattle.rules.specs.declared.OrderAnswer.{OrderAnswer}
 use Rattle.rules.specs.declared.Tally.{Tally}
 use Rattle.rules.specs.declared.TalliedAnswer.{TalliedAnswer}
 use Rattle.rules.specs.declared.PairAnswer.{PairAnswer}
+use Rattle.rules.specs.Order.{termsOf}
 use Rattle.rules.specs.Numbers.{checkSlices}
-use Rattle.rules.specs.Fix.{checkFix}
 use Rattle.rules.specs.Pair.{PairOrder, ownNumber, paired, checkPair}
 use Rattle.rules.specs.Tally.{tallied, Call, ownAnswer, checkTallied}
 
-pub same-check : (symbols counts : List ℕ) {st st′ : Settings} {m m′ : Market} {t t′ : Terms} → st ≡ st′ → m ≡ m′ → t ≡ t′ → checkSlices st m t symbols counts ≡ checkSlices st′ m′ t′ symbols counts
-same-check symbols counts p q r = λ i. checkSlices (p i) (q i) (r i) symbols counts
+pub same-terms : (kind stop manual opening : ℕ) {p p′ n n′ : ℤ} → p ≡ p′ → n ≡ n′ → termsOf p kind stop manual opening n ≡ termsOf p′ kind stop manual opening n′
+same-terms kind stop manual opening p n = λ i. termsOf (p i) kind stop manual opening (n i)
 
-pub same-message : (message : List ℕ) (stop manual opening : ℕ) {st st′ : Settings} {m m′ : Market} → st ≡ st′ → m ≡ m′
-    → checkFix (record { settings = st; market = m; stop = stop; manual = manual; opening = opening }) message ≡ checkFix (record { settings = st′; market = m′; stop = stop; manual = manual; opening = opening }) message
-same-message message stop manual opening p q = λ i. checkFix (record { settings = p i; market = q i; stop = stop; manual = manual; opening = opening }) message
+pub same-check : (st : Settings) (m : Market) (symbols counts : List ℕ) {t t′ : Terms} → t ≡ t′ → checkSlices st m t symbols counts ≡ checkSlices st m t′ symbols counts
+same-check st m symbols counts p = λ i. checkSlices st m (p i) symbols counts
 
 -- an answer is its fields
 pub fields : (a : OrderAnswer) {b : OrderAnswer} → a ≡ b → record { number = a .number; class = a .class; shape = a .shape; pairings = a .pairings } ≡ b

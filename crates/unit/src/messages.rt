@@ -1,7 +1,5 @@
 // The entry for FIX messages: document 02, S-1.
 use fix_check::check_fix;
-use inputs::market_of;
-use inputs::settings_of;
 ghost use mathlib.Core.Path.{_≡_};
 ghost use Rattle.rules.specs.Market.{settingsOf, marketOf};
 ghost use Rattle.rules.specs.Fix.{checkFix};
@@ -21,9 +19,7 @@ pub extern "C" fn opc_check_fix(
 ) -> u64
     ensures { λ r. ⌜ record { number = r; class = now (class .exit); shape = now (shape .exit); pairings = now (pairings .exit) } ≡ checkFix (record { settings = settingsOf (now (settings .entry)); market = marketOf (now (market .entry)); stop = stop; manual = manual; opening = opening }) (now (message .entry)) ⌝ }
 {
-    let set = settings_of(settings);
-    let values = market_of(market);
-    let answer = check_fix(message, stop, manual, opening, set, values);
+    let answer = check_fix(message, stop, manual, opening, settings, market);
     *class = answer.class;
     *shape = answer.shape;
     *pairings = answer.pairings;

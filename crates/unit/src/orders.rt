@@ -1,6 +1,4 @@
 // The entry for orders.
-use inputs::market_of;
-use inputs::settings_of;
 use order_check::check_slices;
 use terms::terms_of;
 ghost use mathlib.Core.Path.{_≡_};
@@ -17,18 +15,17 @@ pub extern "C" fn opc_check_order(
     stop: u64,
     manual: u64,
     opening: u64,
+    shares: i64,
     settings: &[u64],
     market: &[u64],
     class: &mut u64,
     shape: &mut u64,
     pairings: &mut u64,
 ) -> u64
-    ensures { λ r. ⌜ record { number = r; class = now (class .exit); shape = now (shape .exit); pairings = now (pairings .exit) } ≡ answerTo (record { settings = settingsOf (now (settings .entry)); market = marketOf (now (market .entry)); price = price; kind = kind; stop = stop; manual = manual; opening = opening }) (now (symbols .entry)) (now (counts .entry)) ⌝ }
+    ensures { λ r. ⌜ record { number = r; class = now (class .exit); shape = now (shape .exit); pairings = now (pairings .exit) } ≡ answerTo (record { settings = settingsOf (now (settings .entry)); market = marketOf (now (market .entry)); price = price; kind = kind; stop = stop; manual = manual; opening = opening; shares = shares }) (now (symbols .entry)) (now (counts .entry)) ⌝ }
 {
-    let terms = terms_of(price, kind, stop, manual, opening);
-    let set = settings_of(settings);
-    let values = market_of(market);
-    let answer = check_slices(symbols, counts, terms, set, values);
+    let terms = terms_of(price, kind, stop, manual, opening, shares);
+    let answer = check_slices(symbols, counts, terms, settings, market);
     *class = answer.class;
     *shape = answer.shape;
     *pairings = answer.pairings;

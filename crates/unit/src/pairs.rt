@@ -1,6 +1,4 @@
 // The entry for auction pairs: document 02, S-2.
-use inputs::market_of;
-use inputs::settings_of;
 use order_check::check_slices;
 use pair::paired;
 use terms::terms_of;
@@ -19,6 +17,7 @@ pub extern "C" fn opc_check_pair(
     agency_stop: u64,
     agency_manual: u64,
     agency_opening: u64,
+    agency_shares: i64,
     contra_symbols: &[u8],
     contra_counts: &[u8],
     contra_price: i64,
@@ -26,6 +25,7 @@ pub extern "C" fn opc_check_pair(
     contra_stop: u64,
     contra_manual: u64,
     contra_opening: u64,
+    contra_shares: i64,
     continue_unpaired: u64,
     settings: &[u64],
     market: &[u64],
@@ -33,26 +33,26 @@ pub extern "C" fn opc_check_pair(
     agency_passes: &mut u64,
     contra_passes: &mut u64,
 ) -> u64
-    ensures { λ r. ⌜ record { agency = record { number = r; passes = now («agency_passes» .exit) }; contra = record { number = now («contra_number» .exit); passes = now («contra_passes» .exit) } } ≡ checkPair (settingsOf (now (settings .entry))) (marketOf (now (market .entry))) «continue_unpaired» (record { symbols = now («agency_symbols» .entry); counts = now («agency_counts» .entry); price = «agency_price»; kind = «agency_kind»; stop = «agency_stop»; manual = «agency_manual»; opening = «agency_opening» }) (record { symbols = now («contra_symbols» .entry); counts = now («contra_counts» .entry); price = «contra_price»; kind = «contra_kind»; stop = «contra_stop»; manual = «contra_manual»; opening = «contra_opening» }) ⌝ }
+    ensures { λ r. ⌜ record { agency = record { number = r; passes = now («agency_passes» .exit) }; contra = record { number = now («contra_number» .exit); passes = now («contra_passes» .exit) } } ≡ checkPair (settingsOf (now (settings .entry))) (marketOf (now (market .entry))) «continue_unpaired» (record { symbols = now («agency_symbols» .entry); counts = now («agency_counts» .entry); price = «agency_price»; kind = «agency_kind»; stop = «agency_stop»; manual = «agency_manual»; opening = «agency_opening»; shares = «agency_shares» }) (record { symbols = now («contra_symbols» .entry); counts = now («contra_counts» .entry); price = «contra_price»; kind = «contra_kind»; stop = «contra_stop»; manual = «contra_manual»; opening = «contra_opening»; shares = «contra_shares» }) ⌝ }
 {
-    let set = settings_of(settings);
-    let values = market_of(market);
-    let agency_terms = terms_of(
+    let terms = terms_of(
         agency_price,
         agency_kind,
         agency_stop,
         agency_manual,
         agency_opening,
+        agency_shares,
     );
-    let contra_terms = terms_of(
+    let agency = check_slices(agency_symbols, agency_counts, terms, settings, market);
+    let terms = terms_of(
         contra_price,
         contra_kind,
         contra_stop,
         contra_manual,
         contra_opening,
+        contra_shares,
     );
-    let agency = check_slices(agency_symbols, agency_counts, agency_terms, set, values);
-    let contra = check_slices(contra_symbols, contra_counts, contra_terms, set, values);
+    let contra = check_slices(contra_symbols, contra_counts, terms, settings, market);
     let answer = paired(continue_unpaired, agency.number, contra.number);
     *contra_number = answer.contra.number;
     *agency_passes = answer.agency.passes;

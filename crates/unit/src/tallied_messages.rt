@@ -1,7 +1,5 @@
 // The entry for FIX messages that are tallied: document 02, S-1.
 use fix_check::check_fix;
-use inputs::market_of;
-use inputs::settings_of;
 use rules::Tally;
 use tally::tallied;
 ghost use mathlib.Core.Path.{_≡_};
@@ -27,15 +25,13 @@ pub extern "C" fn opc_check_fix_tallied(
 ) -> u64
     ensures { λ r. ⌜ record { answer = record { number = r; class = now (class .exit); shape = now (shape .exit); pairings = now (pairings .exit) }; tally = record { seen = now (seen .exit); refused = now (refused .exit); accepted = now (accepted .exit); rejected = now (rejected .exit) } } ≡ checkTallied (record { seen = now (seen .entry); refused = now (refused .entry); accepted = now (accepted .entry); rejected = now (rejected .entry) }) (messageCall (record { settings = settingsOf (now (settings .entry)); market = marketOf (now (market .entry)); stop = stop; manual = manual; opening = opening }) (now (message .entry))) ⌝ }
 {
-    let set = settings_of(settings);
-    let values = market_of(market);
     let before = Tally {
         seen: *seen,
         refused: *refused,
         accepted: *accepted,
         rejected: *rejected,
     };
-    let answer = check_fix(message, stop, manual, opening, set, values);
+    let answer = check_fix(message, stop, manual, opening, settings, market);
     let after = tallied(before, answer);
     *class = after.answer.class;
     *shape = after.answer.shape;

@@ -1,6 +1,4 @@
 // The entry for orders that are tallied.
-use inputs::market_of;
-use inputs::settings_of;
 use order_check::check_slices;
 use rules::Tally;
 use tally::tallied;
@@ -19,6 +17,7 @@ pub extern "C" fn opc_check_order_tallied(
     stop: u64,
     manual: u64,
     opening: u64,
+    shares: i64,
     settings: &[u64],
     market: &[u64],
     class: &mut u64,
@@ -29,18 +28,16 @@ pub extern "C" fn opc_check_order_tallied(
     accepted: &mut u64,
     rejected: &mut u64,
 ) -> u64
-    ensures { λ r. ⌜ record { answer = record { number = r; class = now (class .exit); shape = now (shape .exit); pairings = now (pairings .exit) }; tally = record { seen = now (seen .exit); refused = now (refused .exit); accepted = now (accepted .exit); rejected = now (rejected .exit) } } ≡ checkTallied (record { seen = now (seen .entry); refused = now (refused .entry); accepted = now (accepted .entry); rejected = now (rejected .entry) }) (order (record { settings = settingsOf (now (settings .entry)); market = marketOf (now (market .entry)); price = price; kind = kind; stop = stop; manual = manual; opening = opening }) (now (symbols .entry)) (now (counts .entry))) ⌝ }
+    ensures { λ r. ⌜ record { answer = record { number = r; class = now (class .exit); shape = now (shape .exit); pairings = now (pairings .exit) }; tally = record { seen = now (seen .exit); refused = now (refused .exit); accepted = now (accepted .exit); rejected = now (rejected .exit) } } ≡ checkTallied (record { seen = now (seen .entry); refused = now (refused .entry); accepted = now (accepted .entry); rejected = now (rejected .entry) }) (order (record { settings = settingsOf (now (settings .entry)); market = marketOf (now (market .entry)); price = price; kind = kind; stop = stop; manual = manual; opening = opening; shares = shares }) (now (symbols .entry)) (now (counts .entry))) ⌝ }
 {
-    let terms = terms_of(price, kind, stop, manual, opening);
-    let set = settings_of(settings);
-    let values = market_of(market);
+    let terms = terms_of(price, kind, stop, manual, opening, shares);
     let before = Tally {
         seen: *seen,
         refused: *refused,
         accepted: *accepted,
         rejected: *rejected,
     };
-    let answer = check_slices(symbols, counts, terms, set, values);
+    let answer = check_slices(symbols, counts, terms, settings, market);
     let after = tallied(before, answer);
     *class = after.answer.class;
     *shape = after.answer.shape;

@@ -8,7 +8,6 @@ use lib.ListN.{length, take, getD, length-map}
 use lib.Seq.{slice, getD-take, length-take-le}
 use lib.Dec.{leb}
 use borrow.Author.Tests.{lt-leb, eq-eqb, ne-eqb, not-false}
-use Rattle.rules.specs.declared.Order.{Order}
 use Rattle.rules.specs.declared.RawLeg.{RawLeg}
 use Rattle.rules.specs.declared.Leg.{Leg}
 use Rattle.rules.specs.declared.Terms.{Terms}
@@ -18,10 +17,10 @@ use Rattle.rules.specs.Limits.{within}
 use Rattle.rules.specs.Numerals.{areDigits}
 use Rattle.rules.specs.Lists.{All, all, any, somePair}
 use Rattle.rules.specs.Symbol.{isRoot, inLimits, partsOf, isSymbol}
-use Rattle.rules.specs.Order.{recordLegs, legOf, legsOf, noLeg}
+use Rattle.rules.specs.Order.{legOf, legsOf, noLeg}
 use Rattle.rules.specs.Pairing.{digit}
 use Rattle.rules.specs.Market.{settingsHold, marketHolds}
-use Rattle.rules.specs.Numbers.{firstOf, isBadCount, isSameSeries, isOtherRoot, isBadPrice, refusals, refusal}
+use Rattle.rules.specs.Numbers.{firstOf, isBadCount, isSameSeries, isOtherRoot, isBadPrice, isBadShares, refusals, refusal}
 use Rattle.rules.specs.Valid.{InRange, IsValidLeg, AreValid}
 use Rattle.rules.proofs.Tests.{and-both, and-no, or-neither, within-both}
 use Rattle.rules.proofs.Symbols.{limits}
@@ -90,15 +89,15 @@ unfolding refusal all
 not-refused st m t n rs h = go (none-apply (refusals st m t n rs) refl h)
   where
     go : All (λ e. e .0 ≡ false) (refusals st m t n rs) → (1 ≤ n) × (n ≤ 16) × AreValid (legsOf rs) × (settingsHold st ≡ true) × (marketHolds m ≡ true)
-    go (length, (symbols, (counts, (twice, (roots, (price, (settings, (market, _)))))))) =
+    go (length, (symbols, (counts, (twice, (roots, (price, (shares, (settings, (market, _))))))))) =
         let w = within-both 1 16 n (not-false _ length) in
         (w .0, w .1, record { each = valid-legs rs symbols counts; apart = twice; roots = roots }, not-false _ settings, not-false _ market)
 
 -- ---- the number
 
--- refusals 6 to 10
-abbrev pub later : Bool → Bool → Bool → Settings → Market → List (Bool × ℕ)
-later twice other price st m = (twice, 6) ∷ (other, 7) ∷ (price, 8) ∷ (not (settingsHold st), 9) ∷ (not (marketHolds m), 10) ∷ []
+-- refusals 6 to 10, with 33
+abbrev pub later : Bool → Bool → Bool → Terms → Settings → Market → List (Bool × ℕ)
+later twice other price t st m = (twice, 6) ∷ (other, 7) ∷ (price, 8) ∷ (isBadShares t, 33) ∷ (not (settingsHold st), 9) ∷ (not (marketHolds m), 10) ∷ []
 
 -- the side that a place says
 side-of : (k : ℕ) (b : Bool) (place : ℕ) → place ≡ placeOf (k * 2 + digit b) 0 → b ≡ isBought (place / 16)
@@ -114,42 +113,42 @@ first-side places (x ∷ []) h e =
 first-side places (x ∷ y ∷ ls) h e = absurd (omega arith)
 
 -- what the tests say: `twice` and `price` are those of the places
-module _ (st : Settings) (m : Market) (read : Read) (places roots sorted : List ℕ) (r : ℕ) (twice price : Bool)
+module _ (st : Settings) (m : Market) (t : Terms) (read : Read) (places roots sorted : List ℕ) (r : ℕ) (twice price : Bool)
     (few : read .len ≤ 16)
     (series : SortedTwice (read .len) (read .other) places roots sorted twice)
-    (priced : (ls : List Leg) → length ls ≡ read .len → (read .len ≡ 1 → getD ls 0 noLeg .bought ≡ isBought (getD places 0 0 / 16)) → price ≡ isBadPrice (read .terms) ls)
-    (tests : after (read .number) (later twice (read .other) price st m) ≡ after r [])
+    (priced : (ls : List Leg) → length ls ≡ read .len → (read .len ≡ 1 → getD ls 0 noLeg .bought ≡ isBought (getD places 0 0 / 16)) → price ≡ isBadPrice t ls)
+    (tests : after (read .number) (later twice (read .other) price t st m) ≡ after r [])
   where
     -- they are the definition's, of an order that reading does not refuse
-    same-tests : (o : Order) (sizes : List ℕ) → length (o .legs) ≡ 16 → IsRead o places sizes roots read → read .number ≡ 0
-        → later (somePair isSameSeries (legsOf (recordLegs o))) (somePair isOtherRoot (legsOf (recordLegs o))) (isBadPrice (o .terms) (legsOf (recordLegs o))) st m ≡ later twice (read .other) price st m
+    same-tests : (legs : List RawLeg) (many : ℕ) (sizes : List ℕ) → length legs ≡ 16 → IsRead legs many places sizes roots read → read .number ≡ 0
+        → later (somePair isSameSeries (legsOf (take many legs))) (somePair isOtherRoot (legsOf (take many legs))) (isBadPrice t (legsOf (take many legs))) t st m ≡ later twice (read .other) price t st m
     unfolding legsOf
-    same-tests o sizes full is h =
+    same-tests legs many sizes full is h =
         let g = is .good h in
-        let ls = legsOf (recordLegs o) in
-        let number : length ls ≡ read .len = length-map (recordLegs o) legOf ∙ length-take-le (o .len) (o .legs) (omega (arith, full, few, g .len)) ∙ sym (g .len) in
-        let s = series .twice ls sizes (g .placed) number (read-ranges (o .len) (recordLegs o) (sym (is .number) ∙ h)) (g .other) in
-        let p = priced ls number (λ e. first-side places ls (number ∙ e) (g .placed .eachTag)) ∙ ap (λ (t : Terms). isBadPrice t ls) (is .terms) in
+        let ls = legsOf (take many legs) in
+        let number : length ls ≡ read .len = length-map (take many legs) legOf ∙ length-take-le many legs (omega (arith, full, few, g .len)) ∙ sym (g .len) in
+        let s = series .twice ls sizes (g .placed) number (read-ranges many (take many legs) (sym (is .number) ∙ h)) (g .other) in
+        let p = priced ls number (λ e. first-side places ls (number ∙ e) (g .placed .eachTag)) in
         rw (← s, ← g .other, ← p)
 
-    number-of : (o : Order) (sizes : List ℕ) → length (o .legs) ≡ 16 → IsRead o places sizes roots read → r ≡ refusal st m (o .terms) (o .len) (recordLegs o)
+    number-of : (legs : List RawLeg) (many : ℕ) (sizes : List ℕ) → length legs ≡ 16 → IsRead legs many places sizes roots read → r ≡ refusal st m t many (take many legs)
     unfolding refusal
-    number-of o sizes full is =
-        let ls = legsOf (recordLegs o) in
-        let first = readRefusals (o .len) (recordLegs o) in
-        let others = later (somePair isSameSeries ls) (somePair isOtherRoot ls) (isBadPrice (o .terms) ls) st m in
+    number-of legs many sizes full is =
+        let ls = legsOf (take many legs) in
+        let first = readRefusals many (take many legs) in
+        let others = later (somePair isSameSeries ls) (somePair isOtherRoot ls) (isBadPrice t ls) t st m in
         chained r (first ++ others)
         (goes-on first others (tt, (tt, (tt, tt)))
         ∙ ap (λ (n : ℕ). after n others) (sym (is .number))
-        ∙ only-then (read .number) others (later twice (read .other) price st m) (same-tests o sizes full is)
+        ∙ only-then (read .number) others (later twice (read .other) price t st m) (same-tests legs many sizes full is)
         ∙ tests)
 
     -- roots do not differ where nothing is refused
     one-root : r ≡ 0 → read .other ≡ false
     unfolding all
     one-root e =
-        let tried = later twice (read .other) price st m in
+        let tried = later twice (read .other) price t st m in
         none-apply tried refl (none-found (read .number) tried (tests ∙ ap (λ (n : ℕ). after n []) e) .1) .1 .0
 
-    pub refuses : Refuses st m read places roots sorted r
+    pub refuses : Refuses st m t read places roots sorted r
     refuses = record { number = number-of; sorted = λ e. series .sorted (one-root e); full = series .full }

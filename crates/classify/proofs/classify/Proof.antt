@@ -6,7 +6,7 @@ use Rattle.classify.proofs.classify.Statement.{statement}
 use Rattle.classify.proofs.classify.Tie as tie
 
 units-requires : tie.Need-units-requires
-units-requires c κs = let s = c .before .before in let v = s .pre .0 in (v .valid .few, v .full, s .pre .2, all-positive (take (s .args .n) (s .args .left .now)) (v .counts))
+units-requires c κs = let s = c .before .before in let v = s .pre .0 in (v .valid .few, v .full, s .pre .1, all-positive (take (s .args .n) (s .args .left .now)) (v .counts))
 
 both-walks-requires : tie.Need-both-walks-requires
 both-walks-requires c κs = let v = c .before .before .before .before .pre .0 in record { valid = v .valid; rising = v .rising; full = v .full; counts = all-within (take (c .before .before .before .before .args .n) (c .before .before .before .before .args .left .now)) (v .counts) }

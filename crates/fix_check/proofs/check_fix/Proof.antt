@@ -15,10 +15,10 @@ use Rattle.fix_check.proofs.check_fix.Statement.{statement}
 use Rattle.fix_check.proofs.check_fix.Tie as tie
 
 abbrev start : tie.After-message-refusal → tie.Start
-start c = c .before .before .before .before
+start c = c .before .before .before .before .before .before
 
 -- head and state are those of the message
-found : (c : tie.After-scan-fields) → let m = c .before .before .before .args .message .now in (c .before .head-of .result ≡ headOf m) × (c .scan-fields .result ≡ scanned m (c .before .head-of .result .body))
+found : (c : tie.After-scan-fields) → let m = c .before .before .before .before .before .args .message .now in (c .before .head-of .result ≡ headOf m) × (c .scan-fields .result ≡ scanned m (c .before .head-of .result .body))
 found c = (c .before .head-of .ensures, c .scan-fields .ensures)
 
 message-refusal-requires : tie.Need-message-refusal-requires

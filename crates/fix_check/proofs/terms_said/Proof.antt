@@ -8,8 +8,9 @@ price-said-requires c κs = let s = c .before .before in rw (lent (s .args .p .s
 
 returns : tie.Need-returns
 returns c =
-    let s = c .before .before .before .before in
-    rw (c .pick .ensures, c .before .price-said .ensures, lent (s .args .p .start) (s .args .p .end) (s .args .message .now) (s .pre .0) (s .pre .1))
+    let kind = c .before in
+    let s = kind .before .before .before .before in
+    rw (c .shares-of .ensures, kind .pick .ensures, kind .before .price-said .ensures, lent (s .args .p .start) (s .args .p .end) (s .args .message .now) (s .pre .0) (s .pre .1))
 
 pub terms-said-spec : {M : Type 1} → statement M
 terms-said-spec =
@@ -19,5 +20,6 @@ terms-said-spec =
     (λ c. search needs)
     (λ c. search needs)
     price-said-requires
+    (λ c κs. tt)
     (λ c κs. tt)
     returns)

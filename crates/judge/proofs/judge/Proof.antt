@@ -1,6 +1,5 @@
--- An order of one leg is simple, and every other complex.
+-- A simple order has one leg, and every other is complex.
 use borrow.Author.Needs.{needs}
-use native.Mathlib.Omega.{arith}
 use mathlib.Core.Path.{_≡_, sym, ap, _∙_}
 use mathlib.Core.List.{List}
 use mathlib.Core.Bool.{true, false, not}
@@ -10,7 +9,7 @@ use Rattle.rules.specs.Order.{isSimple}
 use Rattle.rules.specs.Numbers.{judged}
 use Rattle.laws.proofs.Simple.{simple-length, simple-same}
 use Rattle.keys.specs.Tags.{legsIn}
-use Rattle.judge.proofs.Laws.{legs-length, one-leg, complex-length}
+use Rattle.judge.proofs.Laws.{legs-length, one-leg}
 use Rattle.judge.proofs.judge.Statement.{statement}
 use Rattle.judge.proofs.judge.Tie as tie
 
@@ -49,8 +48,7 @@ judge-complex-requires c κs =
     let q = c .before .before in
     let s = q .before in
     let complex = ap not (sym (asked q) ∙ c .before .if1 .left) in
-    let more = complex-length (s .args .t) (legs q) complex in
-    (s .pre .0, s .pre .2, omega (arith, more, many q, s .pre .3), complex)
+    (s .pre .0, s .pre .2, s .pre .3, complex)
 
 returns-2 : tie.Need-returns-2
 returns-2 c root = c .judge-complex .ensures root _

@@ -1,6 +1,5 @@
 -- The unit legs of a valid order, and its numbers one by one.
 use borrow.Author.Needs.{needs}
-use native.Mathlib.Omega.{arith}
 use Rattle.judge.proofs.Laws.{complex-units, judged-by}
 use Rattle.judge.proofs.judge_complex.Statement.{statement}
 use Rattle.judge.proofs.judge_complex.Tie as tie
@@ -11,7 +10,7 @@ rejection-requires c κs =
     let a = s .args in
     let v = s .pre .1 in
     let k = c .before .classify .ensures in
-    (v .valid .few, v .valid .full, k .1, complex-units (a .st) (a .t) (a .n) (a .tags .now) (a .left .now) _ (s .pre .0) v (omega (arith, s .pre .2)) (s .pre .3) (k .0 0 .counts), s .pre .2, k .0 0 .shape)
+    (v .valid .few, v .valid .full, k .1, complex-units (a .st) (a .t) (a .n) (a .tags .now) (a .left .now) _ (s .pre .0) v (s .pre .2) (s .pre .3) (k .0 0 .counts), k .0 0 .shape)
 
 returns : tie.Need-returns
 returns c root m =

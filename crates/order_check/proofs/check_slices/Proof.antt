@@ -10,7 +10,7 @@ returns c = c .refused .ensures ∙ sym (too-many _ _ _ _ _ (sym (c .before .bef
 
 order-of-requires : tie.Need-order-of-requires
 order-of-requires c κs =
-    let a = c .before .before .before .before .before .args in
+    let a = c .before .before .before .before .before .before .before .args in
     let k = whole-lengths (a .symbols .now) (a .counts .now) (sym (c .before .before .are-whole .ensures) ∙ c .before .if1 .taken) in
     (omega arith, k .0, k .1)
 

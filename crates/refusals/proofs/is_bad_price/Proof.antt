@@ -8,13 +8,15 @@ use Rattle.refusals.proofs.is_bad_price.Tie as tie
 
 returns : tie.Need-returns
 returns c ls n side =
-    let a = c .before .before .before .before .before .before .before .before .args in
-    let positive = c .before .before .before .before .before .before .before .is-positive .ensures in
-    let negative = c .before .before .before .before .before .before .is-negative .ensures in
-    let sign = c .before .before .before .before .before .choose .ensures ∙ ap₂ (cond (a .bought)) positive negative in
-    let simple = c .before .before .before .is-simple .ensures ls n in
-    let asked = c .before .both .ensures ∙ ap₂ _&&_ simple (c .before .before .negated .ensures ∙ ap not sign) in
-    c .either .ensures ∙ ap (λ (b : Bool). ltb 1000000000000 (a .t .price .size .0) || b) asked ∙ price-of-one (a .t) (a .bought) ls (λ e. side (sym n ∙ e))
+    let turned = c .before .before in
+    let simple = turned .before .before in
+    let sign = simple .before in
+    let negative = sign .before in
+    let positive = negative .before in
+    let a = positive .before .args in
+    let asked = sign .choose .ensures ∙ ap₂ (cond (a .bought)) (positive .is-positive .ensures) (negative .is-negative .ensures) in
+    let both = c .before .both .ensures ∙ ap₂ _&&_ (simple .is-simple .ensures ls n) (turned .negated .ensures ∙ ap not asked) in
+    c .either .ensures ∙ ap (λ (b : Bool). ltb 1000000000000 (a .t .price .size .0) || b) both ∙ price-of-one (a .t) (a .bought) ls (λ e. side (sym n ∙ e))
 
 pub is-bad-price-spec : {M : Type 1} → statement M
 is-bad-price-spec =

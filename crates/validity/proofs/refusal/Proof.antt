@@ -8,21 +8,26 @@ use Rattle.validity.proofs.refusal.Tie as tie
 
 returns : tie.Need-returns
 returns c =
-    let settings = c .before .before .before in
-    let price = settings .before .before .before in
-    let roots = price .before .before in
-    let twice = roots .before in
-    let series = twice .before in
-    let s = series .before .before .before .before .before in
-    refuses (s .args .st) (s .args .m) (s .args .read) (s .args .places .now) (s .args .roots .now) _ _ _ _
+    let ninth = c .before .before .before in
+    let shared = ninth .before in
+    let eighth = shared .before in
+    let seventh = eighth .before in
+    let sixth = seventh .before in
+    let setting = sixth .before in
+    let shares = setting .before .before in
+    let price = shares .before in
+    let series = price .before in
+    let s = series .before .before .before .before in
+    refuses (s .args .st) (s .args .m) (s .args .t) (s .args .read) (s .args .places .now) (s .args .roots .now) _ _ _ _
     (s .pre .0)
     (series .sorted-twice .ensures)
-    (λ ls n side. price .before .is-bad-price .ensures ls n (λ e. side e ∙ sym (series .before .before .is-bought .ensures)))
-    (twice .otherwise .ensures _ refl _
-    ∙ roots .otherwise2 .ensures _ refl _
-    ∙ price .otherwise3 .ensures _ refl _
-    ∙ settings .otherwise4 .ensures _ (settings .before .negated .ensures ∙ ap not (settings .before .before .settings-hold .ensures)) _
-    ∙ c .otherwise5 .ensures _ (c .before .negated2 .ensures ∙ ap not (c .before .before .market-holds .ensures)) _)
+    (λ ls n side. price .is-bad-price .ensures ls n (λ e. side e ∙ sym (series .before .before .is-bought .ensures)))
+    (sixth .otherwise .ensures _ refl _
+    ∙ seventh .otherwise2 .ensures _ refl _
+    ∙ eighth .otherwise3 .ensures _ refl _
+    ∙ shared .otherwise4 .ensures _ (shares .is-bad-shares .ensures) _
+    ∙ ninth .otherwise5 .ensures _ (setting .negated .ensures ∙ ap not (setting .before .settings-hold .ensures)) _
+    ∙ c .otherwise6 .ensures _ (c .before .negated2 .ensures ∙ ap not (c .before .before .market-holds .ensures)) _)
 
 pub refusal-spec : {M : Type 1} → statement M
 refusal-spec =
@@ -30,6 +35,8 @@ refusal-spec =
     (tie.spec
     (λ c. search needs)
     (λ c κs. tt)
+    (λ c κs. search needs)
+    (λ c κs. search needs)
     (λ c κs. search needs)
     (λ c κs. search needs)
     (λ c κs. search needs)
