@@ -42,6 +42,7 @@ struct order {
     uint64_t stop;
     uint64_t manual;
     uint64_t opening;
+    int64_t shares;
 };
 
 struct call {

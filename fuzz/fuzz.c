@@ -104,7 +104,8 @@ static struct opc_order order_of(const struct order *order, const uint8_t *symbo
                               .kind = order->kind,
                               .stop = order->stop,
                               .manual = order->manual,
-                              .opening = order->opening};
+                              .opening = order->opening,
+                              .shares = order->shares};
 }
 
 /* Of the call's own bytes, which no entry of the library is lent. */
@@ -371,13 +372,13 @@ static void try_write(const struct call *call) {
 #define TERMS_OF(call, last)                                                                       \
     lend_settings(call, last), (call)->settings_len, lend_market(call, last), (call)->market_len
 #define FLAGS_OF(order) (order).stop, (order).manual, (order).opening
-#define PRICE_KIND_FLAGS_OF(order) (order).price, (order).kind, FLAGS_OF(order)
+#define OWN_TERMS_OF(order) (order).price, (order).kind, FLAGS_OF(order), (order).shares
 #define ONE_ORDER_OF(call, last)                                                                   \
     lend_symbols(call, last), (call)->order.symbols_len, lend_counts(call, last),                  \
-        (call)->order.counts_len, PRICE_KIND_FLAGS_OF((call)->order)
+        (call)->order.counts_len, OWN_TERMS_OF((call)->order)
 #define CONTRA_OF(call, last)                                                                      \
     lend_contra_symbols(call, last), (call)->contra.symbols_len, lend_contra_counts(call, last),   \
-        (call)->contra.counts_len, PRICE_KIND_FLAGS_OF((call)->contra)
+        (call)->contra.counts_len, OWN_TERMS_OF((call)->contra)
 #define ORDER_OF(call, last) ONE_ORDER_OF(call, last), TERMS_OF(call, last)
 #define FIX_OF(call, last)                                                                         \
     lend_message(call, last), (call)->message_len, FLAGS_OF((call)->order), TERMS_OF(call, last)
@@ -521,8 +522,8 @@ static uint64_t ask(const struct call *call, struct opc_answer *second) {
     return answer.number;
 }
 
-/* The same order at the prices next to its own, and for the opposite amount. */
-static void ask_order_nearby(const struct call *call) {
+/* A valid order at the prices next to its own, and for the opposite amount. */
+static void ask_prices_nearby(const struct call *call) {
     int64_t price = call->order.price;
     const int64_t prices[] = {price - 1, price + 1, -price};
     struct call near = *call;
@@ -530,6 +531,23 @@ static void ask_order_nearby(const struct call *call) {
     for (size_t i = 0; i < sizeof prices / sizeof prices[0]; i++) {
         near.order.price = prices[i];
         ask(&near, &second);
+    }
+}
+
+/* A valid order with its shares on the other side and without them, or where it has none with some
+ * of either side. Class, shape and pairings come from the options alone. */
+static void ask_shares_nearby(const struct call *call, const struct opc_answer *first) {
+    int64_t shares = call->order.shares;
+    const int64_t others[] = {shares == 0 ? 1 : -shares, shares == 0 ? -1 : 0};
+    struct call near = *call;
+    struct opc_answer other;
+    for (size_t i = 0; i < sizeof others / sizeof others[0]; i++) {
+        near.order.shares = others[i];
+        if (is_valid(ask(&near, &other))) {
+            other.number = first->number;
+            expect_equal(&near, "class, shape and pairings with other shares", &other, first,
+                         sizeof other);
+        }
     }
 }
 
@@ -565,7 +583,8 @@ static void try_check(const struct call *call) {
     if (is_message(call) && number != OPC_BAD_FRAME) {
         ask_message_nearby(call);
     } else if (!is_message(call) && is_valid(number)) {
-        ask_order_nearby(call);
+        ask_prices_nearby(call);
+        ask_shares_nearby(call, &second);
     }
 }
 

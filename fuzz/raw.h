@@ -55,6 +55,7 @@ static inline void raw_one_order(struct input *in, struct order *order) {
     order->price = (int64_t)take_number(in, 8);
     order->kind = take_number(in, 8);
     raw_flags(in, order);
+    order->shares = (int64_t)take_number(in, 8);
 }
 
 static inline void raw_order(struct input *in, struct call *call) {

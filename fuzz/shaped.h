@@ -389,7 +389,7 @@ static inline void put_terms(struct input *in, struct call *call, const struct t
 
 /* Some price of the market, a strike, or the difference of two, and a distance from it. */
 static inline int64_t shaped_line(struct input *in, const struct terms *terms,
-                                  const struct shaped_leg *legs, size_t n) {
+                                  const struct shaped_leg *legs, size_t n, bool is_simple) {
     const struct opc_settings *s = &terms->settings;
     const struct opc_market *m = &terms->market;
     uint64_t first = n == 0 ? 0 : legs[0].strike;
@@ -403,7 +403,7 @@ static inline int64_t shaped_line(struct input *in, const struct terms *terms,
     uint64_t simple[] = {m->nbo, m->nbb, m->own_offer, m->own_bid, m->previous_close,
                          first,  first,  m->underlying};
     uint64_t complex[] = {between, between, between, between, between, premium, premium, 0};
-    uint64_t anchor = n == 1 ? PICK(in, simple) : PICK(in, complex);
+    uint64_t anchor = is_simple ? PICK(in, simple) : PICK(in, complex);
     uint8_t byte = take(in);
     uint64_t tick = byte & 1 ? s->tick_from_3000 : s->tick_below_3000;
     uint64_t away[] = {0,
@@ -422,20 +422,21 @@ static inline int64_t shaped_line(struct input *in, const struct terms *terms,
                           anchor * s->percentage / 10000,
                           anchor * s->percentage / 10000,
                           tick};
-    uint64_t by = n == 1 ? away[byte >> 1 & 7] : allowed[byte >> 1 & 7];
+    uint64_t by = is_simple ? away[byte >> 1 & 7] : allowed[byte >> 1 & 7];
     uint64_t near = (byte >> 4 & 3) + (byte >> 7 == 1 && anchor >= by ? anchor - by : anchor + by);
     return (int64_t)(near % (UINT64_C(1) << 62)) - 1;
 }
 
+/* Of a simple order mostly with the sign that its side has to have. */
 static inline int64_t shaped_order_price(struct input *in, const struct terms *terms,
-                                         const struct shaped_leg *legs, size_t n) {
+                                         const struct shaped_leg *legs, size_t n, bool is_simple) {
     static const int64_t sizes[] = {0,  1, 1000000000000, 1000000000001, INT64_MAX, INT64_MIN,
                                     30, 2};
     uint8_t byte = take(in);
-    int64_t size = byte < 224   ? shaped_line(in, terms, legs, n)
+    int64_t size = byte < 224   ? shaped_line(in, terms, legs, n, is_simple)
                    : byte < 248 ? (int64_t)take_number(in, 2)
                                 : sizes[byte % 8];
-    if (n == 1) {
+    if (is_simple) {
         bool turned = (legs[0].count < 0) != (take(in) >= 248);
         return turned && size != INT64_MIN ? -size : size;
     }
@@ -482,9 +483,25 @@ static inline void shaped_kind_and_flags(struct input *in, struct order *order) 
     order->opening = shaped_flag(in, 192);
 }
 
+/* Mostly none; else a few of either side, some at the limits or far beyond, or any. */
+static inline int64_t shaped_shares(struct input *in) {
+    static const int64_t edges[] = {1000000,   -1000000,  1000001,       -1000001,
+                                    INT64_MAX, INT64_MIN, INT64_MIN + 1, INT64_C(1) << 32};
+    uint8_t byte = take(in);
+    if (byte < 168) {
+        return 0;
+    }
+    if (byte < 232) {
+        return (byte % 2 == 0 ? 1 : -1) * (byte < 200 ? 100 : 1 + take(in));
+    }
+    return byte < 248 ? edges[byte % 8] : (int64_t)take_number(in, byte < 252 ? 3 : 8);
+}
+
+/* An order that has its shares: of one leg without any, it is a simple one. */
 static inline void finish_order(struct input *in, struct order *order, struct draft *draft,
                                 const struct terms *terms) {
-    order->price = shaped_order_price(in, terms, draft->legs, draft->n);
+    bool is_simple = draft->n == 1 && order->shares == 0;
+    order->price = shaped_order_price(in, terms, draft->legs, draft->n, is_simple);
     shaped_kind_and_flags(in, order);
     scale(in, draft->legs, draft->n);
     put_legs(order, draft->pool.root, draft->legs, draft->n);
@@ -493,6 +510,7 @@ static inline void finish_order(struct input *in, struct order *order, struct dr
 static inline void shaped_order(struct input *in, struct call *call) {
     struct draft draft = shaped_draft(in);
     struct terms terms = shaped_terms(in, draft.n == 0 ? 1 : draft.legs[0].strike);
+    call->order.shares = is_message(call) ? 0 : shaped_shares(in);
     finish_order(in, &call->order, &draft, &terms);
     put_terms(in, call, &terms);
     if (is_tallied(call)) {
@@ -508,7 +526,7 @@ static inline void shaped_fix(struct input *in, struct call *call) {
     shaped_message(in, call);
 }
 
-/* The other side of an order: every count has the other sign, and so has the price. */
+/* The other side of an order: every count has the other sign, and so have price and shares. */
 static inline void turn_side(struct order *order) {
     for (size_t i = 0; i < order->counts_len / OPC_COUNT_LENGTH; i++) {
         uint64_t count;
@@ -516,6 +534,7 @@ static inline void turn_side(struct order *order) {
         opc_write_count((int64_t)(0 - count), order->counts + i * OPC_COUNT_LENGTH);
     }
     order->price = (int64_t)(0 - (uint64_t)order->price);
+    order->shares = (int64_t)(0 - (uint64_t)order->shares);
 }
 
 /* Makes one thing of an order wrong, or perhaps just another. */
@@ -525,8 +544,10 @@ static inline void damage_order(struct input *in, struct order *order) {
     uint8_t byte = take(in);
     if (byte < 128) {
         damage_legs(in, order);
-    } else if (byte < 192) {
+    } else if (byte < 176) {
         order->price = PICK(in, prices);
+    } else if (byte < 208) {
+        order->shares = shaped_shares(in);
     } else {
         order->price = (int64_t)(0 - (uint64_t)order->price);
     }
@@ -538,6 +559,7 @@ static inline void shaped_contra(struct input *in, struct call *call, const stru
     uint8_t form = take(in) % 16;
     if (form >= 12) {
         struct draft draft = shaped_draft(in);
+        call->contra.shares = shaped_shares(in);
         finish_order(in, &call->contra, &draft, terms);
     } else {
         call->contra = call->order;
@@ -583,13 +605,13 @@ static inline void shaped_quote(struct input *in, struct call *call) {
     struct pool pool = shaped_pool(in);
     struct shaped_leg leg = shaped_leg(in, &pool);
     struct terms terms = shaped_terms(in, leg.strike);
-    int64_t one = shaped_line(in, &terms, &leg, 1);
+    int64_t one = shaped_line(in, &terms, &leg, 1, true);
     uint8_t byte = take(in);
     int64_t by = byte < 248 ? apart[byte % 8] : 0;
     call->bid = (uint64_t)(byte < 128 || one <= by ? one : one - by);
     call->offer = (uint64_t)(byte < 128 ? one + by : one);
     if (byte % 16 == 9) {
-        call->offer = (uint64_t)shaped_line(in, &terms, &leg, 1);
+        call->offer = (uint64_t)shaped_line(in, &terms, &leg, 1, true);
     }
     call->resting = shaped_flag(in, 128);
     put_terms(in, call, &terms);

@@ -37,6 +37,7 @@ static inline struct made_order order_of(const struct opc_order *order, const st
     m.stop = order->stop;
     m.manual = order->manual;
     m.opening = order->opening;
+    m.shares = order->shares;
     m.settings = terms->settings;
     m.market = terms->market;
     return m;

@@ -235,6 +235,9 @@ static void print_order_fault(const struct opc_order *order, uint64_t number) {
     case OPC_BAD_PRICE:
         printf(": %s", price_trouble(order));
         break;
+    case OPC_BAD_SHARES:
+        printf(": shares %+" PRId64, order->shares);
+        break;
     default:
         break;
     }

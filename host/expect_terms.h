@@ -67,7 +67,7 @@ static inline void print_order(const struct made_order *m) {
     for (size_t i = 0; i < m->counts_len; i++) {
         fprintf(stderr, "%s%02x", i % OPC_COUNT_LENGTH == 0 ? " " : "", m->counts[i]);
     }
-    fprintf(stderr, "\n  price: %" PRId64 "\n", m->price);
+    fprintf(stderr, "\n  price: %" PRId64 ", shares: %" PRId64 "\n", m->price, m->shares);
     print_numbers("kind, stop, manual, opening", flags, COUNT(flags));
 }
 

@@ -5,10 +5,11 @@
 #include "made_orders.h"
 
 static const uint64_t order_numbers[] = {
-    OPC_ACCEPTED,      OPC_NOT_21_BYTES,       OPC_BAD_LEG_COUNT,       OPC_BAD_SYMBOL,
-    OPC_BAD_COUNT,     OPC_SERIES_TWICE,       OPC_ROOTS_DIFFER,        OPC_BAD_PRICE,
-    OPC_BAD_SETTING,   OPC_BAD_MARKET,         OPC_CHECK_PUT,           OPC_CHECK_CALL,
-    OPC_CHECK_BUY_BUY, OPC_CHECK_DEBIT_CREDIT, OPC_CHECK_MAXIMUM_VALUE, OPC_CHECK_TICK_DISTANCE};
+    OPC_ACCEPTED,           OPC_NOT_21_BYTES,  OPC_BAD_LEG_COUNT,      OPC_BAD_SYMBOL,
+    OPC_BAD_COUNT,          OPC_SERIES_TWICE,  OPC_ROOTS_DIFFER,       OPC_BAD_PRICE,
+    OPC_BAD_SHARES,         OPC_BAD_SETTING,   OPC_BAD_MARKET,         OPC_CHECK_PUT,
+    OPC_CHECK_CALL,         OPC_CHECK_BUY_BUY, OPC_CHECK_DEBIT_CREDIT, OPC_CHECK_MAXIMUM_VALUE,
+    OPC_CHECK_TICK_DISTANCE};
 
 /* One market for all that are valid: a call is rejected by 21 before 25, a put by 25 alone. */
 static inline struct made_order no_legs_quoted(void) {

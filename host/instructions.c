@@ -3,6 +3,7 @@
  * on, and prints a line for each call: legs and kind of order or quote. The order check gets orders
  * of 1, 2, 4, 8 and 16 legs, the check of pairs each of these with its other side, the check of
  * messages the messages of those of 1, 4 and 16 legs, the tallied checks those of 1 and 16 legs.
+ * Those of orders and of pairs then get orders of 1 and 16 legs with shares: "1+shares" for 1.
  * With a second argument, "lengths", the check of messages gets ones with more and more fields to
  * step over, and a line has the bytes in place of the legs. host/measure runs this under callgrind,
  * which counts the instructions of each call.
@@ -132,15 +133,16 @@ static uint64_t (*number_of)(const struct made_order *m);
 
 static uint64_t check(const struct made_order *m, const char *kind, const char *sequence) {
     uint64_t number = number_of(m);
-    printf("%zu %s%s\n", legs_of(m), kind, sequence);
+    printf("%zu%s %s%s\n", legs_of(m), m->shares == 0 ? "" : "+shares", kind, sequence);
     return number;
 }
 
 /* An order that pays 1.20 dollars, lent in the sequence in which it is made and in reverse. */
-static void check_kind(void (*add_legs)(struct made_order *, size_t), const char *kind,
-                       size_t legs) {
+static void check_kind(void (*add_legs)(struct made_order *, size_t), const char *kind, size_t legs,
+                       int64_t shares) {
     struct made_order m = no_legs();
     m.price = 1200;
+    m.shares = shares;
     m.market = quoted;
     add_legs(&m, legs);
     uint64_t number = check(&m, kind, "");
@@ -151,9 +153,9 @@ static void check_kind(void (*add_legs)(struct made_order *, size_t), const char
     }
 }
 
-static void check_random(size_t legs) {
+static void check_random(size_t legs, struct made_order (*make)(size_t)) {
     for (size_t i = 0; i < RANDOM_INPUTS; i++) {
-        struct made_order m = random_order(legs);
+        struct made_order m = make(legs);
         struct opc_settings settings = OPC_EXAMPLE_SETTINGS;
         m.settings = settings;
         m.kind = OPC_KIND_LIMIT;
@@ -163,13 +165,22 @@ static void check_random(size_t legs) {
 
 static void check_sizes(const size_t *sizes, size_t len) {
     for (size_t i = 0; i < len; i++) {
-        check_kind(typical, "typical", sizes[i]);
-        check_kind(strikes, "one expiry", sizes[i]);
-        check_kind(expiries, "one strike", sizes[i]);
-        check_kind(all_bought, "all bought", sizes[i]);
-        check_kind(one_against_all, "one against all", sizes[i]);
-        check_kind(fibonacci, "Fibonacci counts", sizes[i]);
-        check_random(sizes[i]);
+        check_kind(typical, "typical", sizes[i], 0);
+        check_kind(strikes, "one expiry", sizes[i], 0);
+        check_kind(expiries, "one strike", sizes[i], 0);
+        check_kind(all_bought, "all bought", sizes[i], 0);
+        check_kind(one_against_all, "one against all", sizes[i], 0);
+        check_kind(fibonacci, "Fibonacci counts", sizes[i], 0);
+        check_random(sizes[i], random_order);
+    }
+}
+
+/* With 100 shares bought, or any by chance. */
+static void check_with_shares(const size_t *sizes, size_t len) {
+    for (size_t i = 0; i < len; i++) {
+        check_kind(typical, "typical", sizes[i], 100);
+        check_kind(all_bought, "all bought", sizes[i], 100);
+        check_random(sizes[i], random_stock_order);
     }
 }
 
@@ -265,6 +276,9 @@ int main(int argc, char **argv) {
             number_of = entries[i].number_of;
             tallied = entries[i].tallied;
             check_sizes(entries[i].sizes, entries[i].len);
+            if (number_of != number_of_message) {
+                check_with_shares(least_and_most, COUNT(least_and_most));
+            }
             return 0;
         }
     }

@@ -141,11 +141,6 @@ static inline int digits_in(enum writing writing) {
     return writing == PLAIN || one_in(2) ? 1 : (int)between(1, MESSAGE_DIGITS);
 }
 
-/* The least number has a size that is no int64_t. */
-static inline uint64_t size_of(int64_t number) {
-    return number < 0 ? 0 - (uint64_t)number : (uint64_t)number;
-}
-
 static inline void add_kind(struct made_message *body, const struct made_order *m) {
     add_written(body, "40=%c|", m->kind == OPC_KIND_LIMIT ? '2' : '1');
 }
@@ -256,6 +251,12 @@ static inline struct opc_fix lend_fix(const struct made_message *message,
 #define EACH_OF_FIX(f) (f)->message, (f)->message_len, (f)->stop, (f)->manual, (f)->opening
 
 /* ---- damage ---- */
+
+/* The numbers that refuse an order in a message: its symbols are 21 bytes, and it has no shares. */
+static const uint64_t message_refusals[] = {OPC_BAD_LEG_COUNT, OPC_BAD_SYMBOL,   OPC_BAD_COUNT,
+                                            OPC_SERIES_TWICE,  OPC_ROOTS_DIFFER, OPC_BAD_PRICE,
+                                            OPC_BAD_SETTING,   OPC_BAD_MARKET};
+#define MESSAGE_REFUSALS COUNT(message_refusals)
 
 /* One byte or one field is gone, there twice or another: perhaps it is no damage. */
 static inline void damage_message(struct made_message *m) {

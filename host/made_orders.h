@@ -24,6 +24,7 @@ struct made_order {
     size_t counts_len;
     int64_t price;
     uint64_t kind, stop, manual, opening;
+    int64_t shares;
     struct opc_settings settings;
     struct opc_market market;
     size_t settings_len, market_len;
@@ -32,10 +33,14 @@ struct made_order {
 /* As the entries take them; the slices of an order, or of a quote, that was made. */
 #define EACH_OF_ORDER(o)                                                                           \
     (o)->symbols, (o)->symbols_len, (o)->counts, (o)->counts_len, (o)->price, (o)->kind,           \
-        (o)->stop, (o)->manual, (o)->opening
+        (o)->stop, (o)->manual, (o)->opening, (o)->shares
 #define SLICES_OF(made)                                                                            \
     (const uint64_t *)&(made)->settings, (made)->settings_len, (const uint64_t *)&(made)->market,  \
         (made)->market_len
+
+/* The limits of an order's price and shares, in size. */
+#define MOST_PRICE 1000000000000
+#define MOST_SHARES 1000000
 
 /* Other numbers of settings and of market values than there are. */
 #define OTHER_LENGTHS 3
@@ -83,7 +88,12 @@ static inline int64_t count_of(const struct made_order *m, size_t leg) {
     return (int64_t)count;
 }
 
-/* An order of no leg, with document 01's example settings and an empty market. */
+/* The least number has a size that is no int64_t. */
+static inline uint64_t size_of(int64_t number) {
+    return number < 0 ? 0 - (uint64_t)number : (uint64_t)number;
+}
+
+/* An order of no leg and no shares, with document 01's example settings and an empty market. */
 static inline struct made_order no_legs(void) {
     struct made_order m = {.settings = OPC_EXAMPLE_SETTINGS,
                            .market = OPC_EMPTY_MARKET,
@@ -114,6 +124,7 @@ static inline struct opc_order lend(const struct made_order *m) {
         .stop = m->stop,
         .manual = m->manual,
         .opening = m->opening,
+        .shares = m->shares,
     };
     return order;
 }
@@ -242,12 +253,12 @@ static inline int64_t random_price(const struct made_order *m) {
         100,           5000,   10000,  15000,      20000};
     uint64_t size = near[below(COUNT(near))] + below(400);
     if (one_in(16)) {
-        size = below(1000000000001);
+        size = below(MOST_PRICE + 1);
     }
     return one_in(2) ? (int64_t)size : -(int64_t)size;
 }
 
-/* A valid order: no refusal applies. */
+/* A valid order without shares: no refusal applies. */
 static inline struct made_order random_order(size_t legs) {
     struct made_order m = no_legs();
     random_legs(&m, legs);
@@ -261,10 +272,29 @@ static inline struct made_order random_order(size_t legs) {
     if (legs == 1) {
         int64_t size = m.price < 0 ? -m.price : m.price;
         bool sold = (m.counts[OPC_COUNT_LENGTH - 1] & 0x80) != 0;
-        size = size % 1000000000000 + 1;
+        size = size % MOST_PRICE + 1;
         m.price = sold ? -size : size;
     }
     return m;
+}
+
+/* Shares bought or sold, up to their limit. */
+static inline int64_t random_shares(void) {
+    int64_t size = one_in(4) ? MOST_SHARES : (int64_t)between(1, one_in(2) ? 100 : MOST_SHARES);
+    return one_in(2) ? size : -size;
+}
+
+/* A valid order with shares: of one leg too, the price may have any sign. */
+static inline struct made_order random_stock_order(size_t legs) {
+    struct made_order m = random_order(legs);
+    m.price = random_price(&m);
+    m.shares = random_shares();
+    return m;
+}
+
+/* A valid order, with shares or without. */
+static inline struct made_order random_either(size_t legs) {
+    return one_in(3) ? random_stock_order(legs) : random_order(legs);
 }
 
 static inline void damage_lengths(struct made_order *m) {
@@ -294,8 +324,18 @@ static inline void damage_count(struct made_order *m) {
 }
 
 static inline void damage_price(struct made_order *m) {
-    static const int64_t wrong[] = {1000000000001, -1000000000001, INT64_MAX, INT64_MIN};
+    static const int64_t wrong[] = {MOST_PRICE + 1, -MOST_PRICE - 1, INT64_MAX, INT64_MIN};
     m->price = wrong[below(COUNT(wrong))];
+}
+
+/* Share counts beyond their limit; of some a part of the bits is a count within it. */
+static const int64_t wrong_shares[] = {MOST_SHARES + 1,  -MOST_SHARES - 1,  INT64_MAX,
+                                       INT64_MIN,        INT64_MIN + 1,     INT64_MIN + 100,
+                                       1LL << 32,        -(1LL << 32),      (1LL << 32) + 100,
+                                       -(1LL << 32) - 1, INT64_MAX - 99999, 10 * MOST_SHARES};
+
+static inline void damage_shares(struct made_order *m) {
+    m->shares = wrong_shares[below(COUNT(wrong_shares))];
 }
 
 /* A value outside its limits, or another number of values. */
@@ -319,15 +359,15 @@ static inline void damage_market(struct opc_market *m, size_t *len) {
     }
 }
 
-/* The numbers that refuse an order, lowest first. */
-static const uint64_t refusals[] = {OPC_NOT_21_BYTES, OPC_BAD_LEG_COUNT, OPC_BAD_SYMBOL,
-                                    OPC_BAD_COUNT,    OPC_SERIES_TWICE,  OPC_ROOTS_DIFFER,
-                                    OPC_BAD_PRICE,    OPC_BAD_SETTING,   OPC_BAD_MARKET};
+/* The numbers that refuse an order: the first that applies is given. */
+static const uint64_t refusals[] = {
+    OPC_NOT_21_BYTES, OPC_BAD_LEG_COUNT, OPC_BAD_SYMBOL, OPC_BAD_COUNT,   OPC_SERIES_TWICE,
+    OPC_ROOTS_DIFFER, OPC_BAD_PRICE,     OPC_BAD_SHARES, OPC_BAD_SETTING, OPC_BAD_MARKET};
 #define REFUSALS COUNT(refusals)
 
 /*
  * Damages an order of three legs or more so that `number`, one of the above, applies. A second
- * damage does not undo the first if its number is lower.
+ * damage does not undo the first if its number stands before that one's.
  */
 static inline void damage(struct made_order *m, uint64_t number) {
     switch (number) {
@@ -351,6 +391,9 @@ static inline void damage(struct made_order *m, uint64_t number) {
         break;
     case OPC_BAD_PRICE:
         damage_price(m);
+        break;
+    case OPC_BAD_SHARES:
+        damage_shares(m);
         break;
     case OPC_BAD_SETTING:
         damage_settings(&m->settings, &m->settings_len);

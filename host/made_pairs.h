@@ -39,24 +39,31 @@ static inline struct made_pair pair_of(const struct made_order *agency,
     return p;
 }
 
+/* 9 and 10 are of no order alone: both orders of a pair get them. */
+static inline bool is_of_terms(uint64_t number) {
+    return number == OPC_BAD_SETTING || number == OPC_BAD_MARKET;
+}
+
 /* Of the least number, whose size is no int64_t, it is the same. */
 static inline int64_t opposite(int64_t number) { return (int64_t)(0 - (uint64_t)number); }
 
-/* The order that an order is crossed with: it sells what that buys, and receives what that pays. */
+/* The order that an order is crossed with: it sells what that buys, shares too, and receives what
+ * that pays. */
 static inline struct made_order other_side(const struct made_order *m) {
     struct made_order other = *m;
     for (size_t leg = 0; leg < legs_of(m); leg++) {
         opc_write_count(opposite(count_of(m, leg)), count_at(&other, leg));
     }
     other.price = opposite(m->price);
+    other.shares = opposite(m->shares);
     return other;
 }
 
 /* A valid order, or one of three legs or more that is damaged, its settings and market not. */
 static inline struct made_order random_side(void) {
-    struct made_order m = random_order(one_in(2) ? between(1, 2) : between(3, OPC_MOST_LEGS));
+    struct made_order m = random_either(one_in(2) ? between(1, 2) : between(3, OPC_MOST_LEGS));
     uint64_t number = refusals[below(REFUSALS)];
-    if (legs_of(&m) > 2 && one_in(2) && number < OPC_BAD_SETTING) {
+    if (legs_of(&m) > 2 && one_in(2) && !is_of_terms(number)) {
         damage(&m, number);
     }
     return m;

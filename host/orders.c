@@ -1,6 +1,6 @@
 /*
- * An example host: makes orders of their parts, checks them through the proved library, which
- * counts them in a tally, and prints what it answers.
+ * An example host: makes orders of their parts, with shares or without, checks them through the
+ * proved library, which counts them in a tally, and prints what it answers.
  */
 #include "columns.h"
 #include "option_price_check.h"
@@ -22,28 +22,32 @@ struct example {
     const char *about;
     size_t len;
     struct leg legs[MOST_LEGS];
-    int64_t price; /* in mills: positive is paid, negative received */
+    int64_t price;  /* in mills: positive is paid, negative received */
+    int64_t shares; /* positive bought, negative sold */
 };
 
 #define BOX_SOLD                                                                                   \
     4, { {-1, 20, 'C'}, {1, 45, 'C'}, {1, 20, 'P'}, {-1, 45, 'P'}, }
 
 static const struct example session[] = {
-    {"vertical, paid for", 2, {{1, 20, 'C'}, {-1, 25, 'C'}}, 1500},
-    {"and received for", 2, {{1, 20, 'C'}, {-1, 25, 'C'}}, -1500},
-    {"box", BOX_SOLD, -24000},
-    {"above its worth", BOX_SOLD, -28000},
-    {"two sold for little", 2, {{-1, 45, 'C'}, {-1, 50, 'C'}}, -19},
-    {"put at its strike", 1, {{1, 18, 'P'}}, 18000},
-    {"one leg, price 0", 1, {{1, 18, 'P'}}, 0},
-    {"no leg", 0, {{0, 0, 0}}, 1000},
+    {"vertical, paid for", 2, {{1, 20, 'C'}, {-1, 25, 'C'}}, 1500, 0},
+    {"and received for", 2, {{1, 20, 'C'}, {-1, 25, 'C'}}, -1500, 0},
+    {"box", BOX_SOLD, -24000, 0},
+    {"above its worth", BOX_SOLD, -28000, 0},
+    {"two sold for little", 2, {{-1, 45, 'C'}, {-1, 50, 'C'}}, -19, 0},
+    {"put at its strike", 1, {{1, 18, 'P'}}, 18000, 0},
+    {"one leg, price 0", 1, {{1, 18, 'P'}}, 0, 0},
+    {"no leg", 0, {{0, 0, 0}}, 1000, 0},
+    {"covered call", 1, {{-1, 45, 'C'}}, 28500, 100},
+    {"both sold for little", 1, {{-1, 45, 'C'}}, -9, -100},
+    {"too many shares", 1, {{-1, 45, 'C'}}, 28500, 1000001},
 };
 
 /* One more check can be counted, then none. */
 static const struct opc_tally nearly_full = {999999, 199999, 600000, 200000};
 static const struct example last_checks[] = {
-    {"the last counted", BOX_SOLD, -24000},
-    {"the tally is full", BOX_SOLD, -24000},
+    {"the last counted", BOX_SOLD, -24000, 0},
+    {"the tally is full", BOX_SOLD, -24000, 0},
 };
 
 /* The bytes of an order's legs, as the library takes them. */
@@ -83,6 +87,7 @@ static struct opc_order order_of(const struct example *e, struct leg_bytes *byte
         .counts_len = e->len * OPC_COUNT_LENGTH,
         .price = e->price,
         .kind = OPC_KIND_LIMIT,
+        .shares = e->shares,
     };
 }
 
@@ -94,6 +99,9 @@ static void print_order(const struct example *e) {
     for (size_t i = 0; i < e->len; i++) {
         width -= printf(" %+" PRId64 " %" PRIu64 "%c", e->legs[i].count, e->legs[i].dollars,
                         e->legs[i].option_type);
+    }
+    if (e->shares != 0) {
+        width -= printf(" %+" PRId64 " shares", e->shares);
     }
     snprintf(price, sizeof price, "%s%" PRId64 ".%03" PRId64, e->price < 0 ? "-" : "", size / 1000,
              size % 1000);
@@ -117,7 +125,7 @@ static void check_all(const struct example *examples, size_t len, struct opc_tal
 int main(void) {
     const struct opc_tally fresh = OPC_FRESH_TALLY;
     printf("Orders, and the tally after each (root XYZ, 15 January 2027, dollars)\n");
-    printf("%-20s %-35s%6s", "order", "legs", "price");
+    printf("%-20s %-35s%6s", "order", "legs, shares", "price");
     print_heading();
     printf("\n");
     check_all(session, COUNT(session), fresh);

@@ -256,22 +256,31 @@ static inline bool is_word(struct field field) {
     return field.len > 0 && field.text[0] >= 'a' && field.text[0] <= 'z';
 }
 
-/* Reads the words that come next, and sets the flag of each, which must be one of the names. */
-static inline bool take_words(struct line *line, const char *const names[], uint64_t *const flags[],
-                              size_t len) {
-    for (struct field word = next_field(line); is_word(word); word = next_field(line)) {
+/* A word that a line may have. */
+struct word {
+    const char *name;
+    uint64_t *flag; /* that it sets */
+    int64_t *count; /* that comes after it; NULL where none does */
+};
+
+/* Reads the words that come next, each of which must be one of these, and there once. */
+static inline bool take_words(struct line *line, const struct word words[], size_t len) {
+    for (struct field next = next_field(line); is_word(next); next = next_field(line)) {
         size_t i = 0;
-        while (i < len && !is(word, names[i])) {
+        while (i < len && !is(next, words[i].name)) {
             i++;
         }
         if (i == len) {
             return is_at_end(line);
         }
-        if (*flags[i] != 0) {
-            return fault(line, word, names[i], "is there twice");
+        if (*words[i].flag != 0) {
+            return fault(line, next, words[i].name, "is there twice");
         }
-        *flags[i] = 1;
-        pass(line, word);
+        *words[i].flag = 1;
+        pass(line, next);
+        if (words[i].count != NULL && !take_count(line, words[i].count)) {
+            return false;
+        }
     }
     return true;
 }
@@ -332,12 +341,16 @@ static inline bool take_legs(struct line *line, struct leg_bytes *legs, size_t *
 
 /* Price, legs and words, up to the line's end. */
 static inline bool take_order(struct line *line, struct opc_order *order, struct leg_bytes *legs) {
-    static const char *const words[] = {"market", "stop", "manual", "opening"};
-    uint64_t *const flags[] = {&order->kind, &order->stop, &order->manual, &order->opening};
+    uint64_t has_shares = 0; /* the word, whatever its count */
+    const struct word words[] = {{"market", &order->kind, NULL},
+                                 {"stop", &order->stop, NULL},
+                                 {"manual", &order->manual, NULL},
+                                 {"opening", &order->opening, NULL},
+                                 {"shares", &has_shares, &order->shares}};
     size_t len;
     *order = (struct opc_order){.kind = OPC_KIND_LIMIT};
     if (!take_price(line, &order->price) || !take_legs(line, legs, &len) ||
-        !take_words(line, words, flags, COUNT(words)) || !is_at_end(line)) {
+        !take_words(line, words, COUNT(words)) || !is_at_end(line)) {
         return false;
     }
     order->symbols = legs->symbols;
@@ -371,13 +384,12 @@ static inline bool find_slash(struct line *line, struct field *slash) {
 
 /* For the agency order the line ends where the '/' is. */
 static inline bool read_pair(struct line *line, struct request *request) {
-    static const char *const words[] = {"unpaired"};
     struct opc_pair *pair = &request->pair;
-    uint64_t *const flags[] = {&pair->continue_unpaired};
+    const struct word words[] = {{"unpaired", &pair->continue_unpaired, NULL}};
     const size_t len = line->len;
     struct field slash;
     *pair = (struct opc_pair){.continue_unpaired = 0};
-    if (!take_words(line, words, flags, COUNT(words)) || !find_slash(line, &slash)) {
+    if (!take_words(line, words, COUNT(words)) || !find_slash(line, &slash)) {
         return false;
     }
     line->len = place_of(line, slash);
@@ -387,12 +399,14 @@ static inline bool read_pair(struct line *line, struct request *request) {
     return is_taken && take_order(line, &pair->contra, &request->contra_legs);
 }
 
+/* Of a message a word is a flag: it says all else itself, and has no shares. */
 static inline bool read_fix(struct line *line, struct request *request) {
-    static const char *const words[] = {"stop", "manual", "opening"};
     struct opc_fix *fix = &request->fix;
-    uint64_t *const flags[] = {&fix->stop, &fix->manual, &fix->opening};
+    const struct word words[] = {{"stop", &fix->stop, NULL},
+                                 {"manual", &fix->manual, NULL},
+                                 {"opening", &fix->opening, NULL}};
     *fix = (struct opc_fix){.message_len = 0};
-    if (!take_words(line, words, flags, COUNT(words))) {
+    if (!take_words(line, words, COUNT(words))) {
         return false;
     }
     take_message(line, request);
@@ -400,13 +414,12 @@ static inline bool read_fix(struct line *line, struct request *request) {
 }
 
 static inline bool read_quote(struct line *line, struct request *request) {
-    static const char *const words[] = {"resting"};
     struct opc_quote *quote = &request->quote;
-    uint64_t *const flags[] = {&quote->resting};
+    const struct word words[] = {{"resting", &quote->resting, NULL}};
     *quote = (struct opc_quote){.symbol = request->legs.symbols, .symbol_len = OPC_SYMBOL_LENGTH};
     return take_series(line, request->legs.symbols) && take_dollars(line, "bid", &quote->bid) &&
-           take_dollars(line, "offer", &quote->offer) &&
-           take_words(line, words, flags, COUNT(words)) && is_at_end(line);
+           take_dollars(line, "offer", &quote->offer) && take_words(line, words, COUNT(words)) &&
+           is_at_end(line);
 }
 
 /* Gives what is wrong with the value, or NULL. */

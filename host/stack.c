@@ -145,18 +145,19 @@ static size_t write_inputs(void) {
     return inputs;
 }
 
-/* Valid orders of each number of legs, then each kind of damage, alone and upon another. */
+/* Valid orders of each number of legs, with shares or without, then each kind of damage, alone and
+ * upon another. */
 static size_t order_inputs(void (*call)(void)) {
     size_t inputs = 0;
     for (size_t legs = 1; legs <= OPC_MOST_LEGS; legs++) {
         for (size_t i = 0; i < INPUTS_PER_KIND; i++, inputs++) {
-            made = random_order(legs);
+            made = random_either(legs);
             call();
         }
     }
     for (size_t kind = 0; kind < REFUSALS; kind++) {
         for (size_t i = 0; i < INPUTS_PER_KIND; i++, inputs++) {
-            made = random_order(between(3, OPC_MOST_LEGS));
+            made = random_either(between(3, OPC_MOST_LEGS));
             if (one_in(4)) {
                 damage(&made, refusals[between(kind, REFUSALS - 1)]);
             }

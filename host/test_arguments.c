@@ -12,7 +12,7 @@
 #include <string.h>
 
 #define ROUNDS 1000
-#define TERMS 5
+#define TERMS 6
 
 static const char *const test_name = "test_arguments";
 
@@ -71,10 +71,10 @@ static void exchange_tally(uint64_t *seen, uint64_t *refused, uint64_t *accepted
 
 uint64_t opc_check_order(const uint8_t *symbols, size_t symbols_len, const uint8_t *counts,
                          size_t counts_len, int64_t price, uint64_t kind, uint64_t stop,
-                         uint64_t manual, uint64_t opening, const uint64_t *settings,
-                         size_t settings_len, const uint64_t *market, size_t market_len,
-                         uint64_t *class_, uint64_t *shape, uint64_t *pairings) {
-    const uint64_t terms[TERMS] = {(uint64_t)price, kind, stop, manual, opening};
+                         uint64_t manual, uint64_t opening, int64_t shares,
+                         const uint64_t *settings, size_t settings_len, const uint64_t *market,
+                         size_t market_len, uint64_t *class_, uint64_t *shape, uint64_t *pairings) {
+    const uint64_t terms[TERMS] = {(uint64_t)price, kind, stop, manual, opening, (uint64_t)shares};
     given.symbols = (struct slice){symbols, symbols_len};
     given.counts = (struct slice){counts, counts_len};
     take_terms(settings, settings_len, market, market_len, terms);
@@ -83,15 +83,15 @@ uint64_t opc_check_order(const uint8_t *symbols, size_t symbols_len, const uint8
 
 uint64_t opc_check_order_tallied(const uint8_t *symbols, size_t symbols_len, const uint8_t *counts,
                                  size_t counts_len, int64_t price, uint64_t kind, uint64_t stop,
-                                 uint64_t manual, uint64_t opening, const uint64_t *settings,
-                                 size_t settings_len, const uint64_t *market, size_t market_len,
-                                 uint64_t *class_, uint64_t *shape, uint64_t *pairings,
-                                 uint64_t *seen, uint64_t *refused, uint64_t *accepted,
-                                 uint64_t *rejected) {
+                                 uint64_t manual, uint64_t opening, int64_t shares,
+                                 const uint64_t *settings, size_t settings_len,
+                                 const uint64_t *market, size_t market_len, uint64_t *class_,
+                                 uint64_t *shape, uint64_t *pairings, uint64_t *seen,
+                                 uint64_t *refused, uint64_t *accepted, uint64_t *rejected) {
     exchange_tally(seen, refused, accepted, rejected);
     return opc_check_order(symbols, symbols_len, counts, counts_len, price, kind, stop, manual,
-                           opening, settings, settings_len, market, market_len, class_, shape,
-                           pairings);
+                           opening, shares, settings, settings_len, market, market_len, class_,
+                           shape, pairings);
 }
 
 uint64_t opc_check_fix(const uint8_t *message, size_t message_len, uint64_t stop, uint64_t manual,
@@ -118,18 +118,19 @@ uint64_t opc_check_fix_tallied(const uint8_t *message, size_t message_len, uint6
 uint64_t opc_check_pair(const uint8_t *agency_symbols, size_t agency_symbols_len,
                         const uint8_t *agency_counts, size_t agency_counts_len,
                         int64_t agency_price, uint64_t agency_kind, uint64_t agency_stop,
-                        uint64_t agency_manual, uint64_t agency_opening,
+                        uint64_t agency_manual, uint64_t agency_opening, int64_t agency_shares,
                         const uint8_t *contra_symbols, size_t contra_symbols_len,
                         const uint8_t *contra_counts, size_t contra_counts_len,
                         int64_t contra_price, uint64_t contra_kind, uint64_t contra_stop,
-                        uint64_t contra_manual, uint64_t contra_opening, uint64_t continue_unpaired,
-                        const uint64_t *settings, size_t settings_len, const uint64_t *market,
-                        size_t market_len, uint64_t *contra_number, uint64_t *agency_passes,
-                        uint64_t *contra_passes) {
-    const uint64_t terms[TERMS] = {(uint64_t)agency_price, agency_kind, agency_stop, agency_manual,
-                                   agency_opening};
-    const uint64_t contra_terms[TERMS] = {(uint64_t)contra_price, contra_kind, contra_stop,
-                                          contra_manual, contra_opening};
+                        uint64_t contra_manual, uint64_t contra_opening, int64_t contra_shares,
+                        uint64_t continue_unpaired, const uint64_t *settings, size_t settings_len,
+                        const uint64_t *market, size_t market_len, uint64_t *contra_number,
+                        uint64_t *agency_passes, uint64_t *contra_passes) {
+    const uint64_t terms[TERMS] = {(uint64_t)agency_price, agency_kind,    agency_stop,
+                                   agency_manual,          agency_opening, (uint64_t)agency_shares};
+    const uint64_t contra_terms[TERMS] = {
+        (uint64_t)contra_price, contra_kind,    contra_stop,
+        contra_manual,          contra_opening, (uint64_t)contra_shares};
     given.symbols = (struct slice){agency_symbols, agency_symbols_len};
     given.counts = (struct slice){agency_counts, agency_counts_len};
     given.contra_symbols = (struct slice){contra_symbols, contra_symbols_len};
@@ -186,6 +187,7 @@ static void make_sent(void) {
         .stop = sent.terms[2],
         .manual = sent.terms[3],
         .opening = sent.terms[4],
+        .shares = (int64_t)sent.terms[5],
     };
     memset(&given, 0, sizeof given);
     fill((uint64_t *)&told, sizeof told / sizeof(uint64_t));
@@ -204,7 +206,8 @@ static void expect_settings_and_market(void) {
 static void expect_order_arrived(void) {
     expect_slice(given.symbols, sent.symbols, sent.order.symbols_len, "the symbols");
     expect_slice(given.counts, sent.counts, sent.order.counts_len, "the counts");
-    expect(memcmp(given.terms, sent.terms, sizeof given.terms) == 0, "price, kind and flags");
+    expect(memcmp(given.terms, sent.terms, sizeof given.terms) == 0,
+           "price, kind, flags and shares");
     expect_settings_and_market();
 }
 
@@ -276,8 +279,8 @@ static void test_fix_tallied_wrapper(void) {
 static void test_pair_wrapper(void) {
     static uint8_t symbols[OPC_SYMBOL_LENGTH], counts[OPC_COUNT_LENGTH];
     make_sent();
-    const uint64_t terms[TERMS] = {next_value(), next_value(), next_value(), next_value(),
-                                   next_value()};
+    uint64_t terms[TERMS];
+    fill(terms, TERMS);
     const struct opc_order contra = {.symbols = symbols,
                                      .symbols_len = next_value(),
                                      .counts = counts,
@@ -286,7 +289,8 @@ static void test_pair_wrapper(void) {
                                      .kind = terms[1],
                                      .stop = terms[2],
                                      .manual = terms[3],
-                                     .opening = terms[4]};
+                                     .opening = terms[4],
+                                     .shares = (int64_t)terms[5]};
     const struct opc_pair pair = {
         .agency = sent.order, .contra = contra, .continue_unpaired = next_value()};
     struct opc_pair_answer answer = opc_answer_pair(&pair, &sent.settings, &sent.market);

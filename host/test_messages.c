@@ -55,7 +55,7 @@ static void test_cases(void) { hold_cases(REQUEST_FIX, hold_message); }
 static struct made_order any_order(void) {
     struct made_order m = random_order(one_in(2) ? between(1, 2) : between(3, OPC_MOST_LEGS));
     if (legs_of(&m) > 2 && one_in(2)) {
-        damage(&m, refusals[between(1, REFUSALS - 1)]);
+        damage(&m, message_refusals[below(MESSAGE_REFUSALS)]);
     }
     return m;
 }
@@ -70,11 +70,11 @@ static struct opc_answer answer_to_order(const struct made_order *m) {
     return a;
 }
 
-/* Every number of the order check but 1, and 32. */
+/* Every number of the order check but 1 and 33, and 32. */
 static uint64_t numbers_of_right_fields(void) {
     uint64_t set = only(OPC_ACCEPTED) | only(OPC_BAD_VALUE);
-    for (size_t i = 1; i < REFUSALS; i++) {
-        set |= only(refusals[i]);
+    for (size_t i = 0; i < MESSAGE_REFUSALS; i++) {
+        set |= only(message_refusals[i]);
     }
     for (uint64_t number = OPC_CHECK_PUT; number <= OPC_CHECK_TICK_DISTANCE; number++) {
         set |= only(number);
@@ -116,10 +116,10 @@ static struct made_order order_given(uint64_t number) {
 /* 30 before 31, 31 before 32, and these before all that the order check gives. */
 static void test_sequence_of_numbers(void) {
     static struct made_message body, message;
-    for (size_t i = 1; i < REFUSALS; i++) {
-        struct made_order m = order_given(refusals[i]);
+    for (size_t i = 0; i < MESSAGE_REFUSALS; i++) {
+        struct made_order m = order_given(message_refusals[i]);
         write_body(&body, &m);
-        expect_body(&body, &m, refusals[i], "a refusal by the order check");
+        expect_body(&body, &m, message_refusals[i], "a refusal by the order check");
         body.bytes[strlen("40=")] = '3';
         expect_body(&body, &m, OPC_BAD_VALUE, "32 before what the order check gives");
         add_text(&body, "44=1|");
@@ -281,13 +281,14 @@ static void test_bad_tallies(void) {
     }
 }
 
-/* One tally for messages, damaged ones among them, and for orders. */
+/* One tally for messages, damaged ones among them, and for orders, with shares now and then. */
 static void test_session(void) {
     static struct made_message body, message;
     struct opc_tally tally = OPC_FRESH_TALLY;
     for (size_t i = 0; i < RANDOM_CASES; i++) {
         struct made_order m = any_order();
         struct opc_order order = lend(&m);
+        order.shares = one_in(4) ? random_shares() : 0;
         random_body(&body, &m);
         if (one_in(3)) {
             damage_message(&body);

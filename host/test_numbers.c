@@ -98,9 +98,9 @@ static uint64_t number_written(void) {
     return number;
 }
 
-/* A valid order, or a damaged one of three legs or more. */
+/* A valid order, with shares or without, or a damaged one of three legs or more. */
 static struct made_order some_order(void) {
-    struct made_order m = random_order(one_in(2) ? between(1, 2) : between(3, OPC_MOST_LEGS));
+    struct made_order m = random_either(one_in(2) ? between(1, 2) : between(3, OPC_MOST_LEGS));
     if (legs_of(&m) > 2 && one_in(2)) {
         damage(&m, refusals[below(REFUSALS)]);
     }
@@ -125,7 +125,8 @@ static uint64_t number_tallied(void) {
     return opc_answer_order_tallied(&order, &m.settings, &m.market, &tally).number;
 }
 
-/* An order's message, or a damaged one, its length and sum right or as they were. */
+/* An order's message, without its shares, or a damaged one, its length and sum right or as they
+ * were. */
 static struct opc_fix some_fix(struct made_order *m) {
     static struct made_message body, message;
     *m = some_order();

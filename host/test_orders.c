@@ -1,6 +1,7 @@
 /*
- * Holds the order check to the answers of the files in cases/, and to what holds of every answer.
- * Exit status 1 and a message on the first failure, one line with the number of checks otherwise.
+ * Holds the order check to the answers of the files in cases/, to what holds of every answer, and
+ * for orders with shares to the number by a rule of this test's own. Exit status 1 and a message on
+ * the first failure, one line with the number of checks otherwise.
  */
 #define _DEFAULT_SOURCE /* for lent_bytes.h */
 #include "answers.h"
@@ -147,21 +148,21 @@ static void test_null(void) {
     expect(a.number == OPC_NOT_21_BYTES, "no counts, at NULL, for a symbol");
 }
 
-/* Two damages at a time: the lower number is given, and zeros beside it. */
+/* Two damages at a time: the number that comes first is given, and zeros beside it. */
 static void test_random_damaged(void) {
     for (size_t i = 0; i < RANDOM_CASES; i++) {
-        struct made_order m = random_order(between(3, OPC_MOST_LEGS));
-        size_t low = below(REFUSALS);
-        size_t high = low + below(REFUSALS - low);
-        damage(&m, refusals[high]);
-        if (high > low) {
-            damage(&m, refusals[low]);
+        struct made_order m = random_either(between(3, OPC_MOST_LEGS));
+        size_t first = below(REFUSALS);
+        size_t second = first + below(REFUSALS - first);
+        damage(&m, refusals[second]);
+        if (second > first) {
+            damage(&m, refusals[first]);
         }
-        expect_refused(&m, refusals[low]);
+        expect_refused(&m, refusals[first]);
     }
 }
 
-/* Valid orders: never refused, and the same answer to the legs in another sequence. */
+/* Without shares: never refused, and the same answer to the legs in another sequence. */
 static void test_random_valid(void) {
     uint64_t seen = 0;
     for (size_t i = 0; i < RANDOM_CASES; i++) {
@@ -179,6 +180,130 @@ static void test_random_valid(void) {
     expect(seen == all, "a number that no valid order was given, or one that none can get");
 }
 
+/* ---- with shares ---- */
+
+static uint64_t common_divisor(uint64_t a, uint64_t b) {
+    return b == 0 ? a : common_divisor(b, a % b);
+}
+
+/* The option contracts of one unit. */
+static uint64_t contracts_of(const struct made_order *m) {
+    uint64_t sum = 0, divisor = 0;
+    for (size_t leg = 0; leg < legs_of(m); leg++) {
+        sum += size_of(count_of(m, leg));
+        divisor = common_divisor(size_of(count_of(m, leg)), divisor);
+    }
+    return sum / divisor;
+}
+
+/* The least that the unit's contracts may bring, in mills. */
+static int64_t least_of(const struct made_order *m) {
+    return (int64_t)(contracts_of(m) * m->settings.net_increment);
+}
+
+static bool is_on_one_side(const struct made_order *m) {
+    bool are_same = true;
+    for (size_t leg = 0; leg < legs_of(m); leg++) {
+        are_same = are_same && (count_of(m, leg) > 0) == (m->shares > 0);
+    }
+    return are_same;
+}
+
+/* Document 02, S-4: of the checks 22 alone applies, to shares and options on one side. */
+static uint64_t number_with_shares(const struct made_order *m) {
+    int64_t amount = m->shares > 0 ? m->price : -m->price;
+    bool is_tested = m->settings.check_22 != 0 && m->kind == OPC_KIND_LIMIT && is_on_one_side(m);
+    return is_tested && amount < least_of(m) ? OPC_CHECK_BUY_BUY : OPC_ACCEPTED;
+}
+
+/* A valid order with shares. Of half of them all legs are on the shares' side, and of half of these
+ * the price is the least, one mill less or one more. */
+static struct made_order any_stock_order(void) {
+    struct made_order m = random_stock_order(one_in(3) ? 1 : between(2, OPC_MOST_LEGS));
+    if (one_in(2)) {
+        return m;
+    }
+    for (size_t leg = 0; leg < legs_of(&m); leg++) {
+        int64_t size = (int64_t)size_of(count_of(&m, leg));
+        opc_write_count(m.shares > 0 ? size : -size, count_at(&m, leg));
+    }
+    if (one_in(2)) {
+        int64_t amount = least_of(&m) + (int64_t)below(3) - 1;
+        m.price = m.shares > 0 ? amount : -amount;
+    }
+    return m;
+}
+
+/* The number of the order without its shares; class, shape and pairings are the same with them. */
+static uint64_t number_without(const struct made_order *m, const struct opc_answer *with) {
+    struct made_order without = *m;
+    without.shares = 0;
+    struct opc_answer a = answer(&without);
+    expect(is_refusal(a.number) ||
+               (a.class_ == with->class_ && a.shape == with->shape && a.pairings == with->pairings),
+           "class, shape or pairings change with shares");
+    return a.number;
+}
+
+/* Among them are orders that get each check's number without their shares, and 8 by the sign. */
+static void test_random_shares(void) {
+    uint64_t seen = 0, without = 0;
+    for (size_t i = 0; i < RANDOM_CASES; i++) {
+        struct made_order m = any_stock_order();
+        uint64_t number = number_with_shares(&m);
+        struct opc_answer a = answer(&m);
+        expect(a.number == number, "another number than S-4 has with shares");
+        seen |= only(number);
+        without |= only(number_without(&m, &a));
+        shuffle_legs(&m);
+        struct opc_answer shuffled = answer(&m);
+        expect(same_answer(&a, &shuffled), "the sequence of the legs matters with shares");
+    }
+    expect(seen == (only(OPC_ACCEPTED) | only(OPC_CHECK_BUY_BUY)), "0 or 22 that none was given");
+    uint64_t all = only(OPC_ACCEPTED) | only(OPC_BAD_PRICE) | only(OPC_CHECK_PUT) |
+                   only(OPC_CHECK_CALL) | only(OPC_CHECK_BUY_BUY) | only(OPC_CHECK_DEBIT_CREDIT) |
+                   only(OPC_CHECK_MAXIMUM_VALUE) | only(OPC_CHECK_TICK_DISTANCE);
+    expect(without == all, "a number that no order gets without its shares, or another");
+}
+
+/* 33 whatever the price, its sign for one leg too, but not before a price that is too large. */
+static void expect_shares(struct made_order m, int64_t shares) {
+    static const int64_t prices[] = {0, 1, -1, 1000, -1000, MOST_PRICE, -MOST_PRICE};
+    static const int64_t too_large[] = {MOST_PRICE + 1, -MOST_PRICE - 1, INT64_MAX, INT64_MIN};
+    m.shares = shares;
+    for (size_t i = 0; i < COUNT(prices); i++) {
+        m.price = prices[i];
+        if (size_of(shares) > MOST_SHARES) {
+            expect_refused(&m, OPC_BAD_SHARES);
+        } else {
+            expect(answer(&m).number == number_with_shares(&m), "shares within their limit");
+        }
+    }
+    for (size_t i = 0; i < COUNT(too_large); i++) {
+        m.price = too_large[i];
+        expect_refused(&m, OPC_BAD_PRICE);
+    }
+}
+
+/* On both sides of the limits, and each power of two. */
+static void test_share_limits(void) {
+    static const int64_t within[] = {1, 100, 999999, MOST_SHARES};
+    const struct made_order made[] = {one_call(), vertical(1000)};
+    for (size_t k = 0; k < COUNT(made); k++) {
+        for (size_t i = 0; i < COUNT(within); i++) {
+            expect_shares(made[k], within[i]);
+            expect_shares(made[k], -within[i]);
+        }
+        for (size_t i = 0; i < COUNT(wrong_shares); i++) {
+            expect_shares(made[k], wrong_shares[i]);
+        }
+        for (size_t bit = 0; bit < 64; bit++) {
+            expect_shares(made[k], (int64_t)(1ULL << bit));
+            expect_shares(made[k], (int64_t)(0 - (1ULL << bit)));
+        }
+    }
+}
+
 int main(void) {
     test_cases();
     test_lengths_of_legs();
@@ -186,5 +311,7 @@ int main(void) {
     test_null();
     test_random_damaged();
     test_random_valid();
+    test_random_shares();
+    test_share_limits();
     return all_hold();
 }

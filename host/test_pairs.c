@@ -207,15 +207,18 @@ static void test_cases(void) {
 
 /* ---- the numbers, and the mark ---- */
 
-/* 9 and 10 are of no order alone: both orders of a pair get them. */
-static bool is_of_terms(uint64_t number) {
-    return number == OPC_BAD_SETTING || number == OPC_BAD_MARKET;
+/* The place of a number among the refusals; after them where it is none. */
+static size_t sequence_of(uint64_t number) {
+    size_t place = 0;
+    while (place < REFUSALS && refusals[place] != number) {
+        place++;
+    }
+    return place;
 }
 
 /* An order's own number, or that of its settings and market where this comes first. */
 static uint64_t first_of(uint64_t own, uint64_t of_terms) {
-    bool own_is_first = of_terms == OPC_ACCEPTED || (own != OPC_ACCEPTED && own < of_terms);
-    return own_is_first ? own : of_terms;
+    return sequence_of(own) <= sequence_of(of_terms) ? own : of_terms;
 }
 
 /* In settings and market that are right, and that get 9 and 10. */
@@ -242,7 +245,8 @@ static void test_each_number(void) {
 
 /* No bit of the mark is left out. */
 static void test_each_bit(void) {
-    static const uint64_t contra_numbers[] = {OPC_ACCEPTED, OPC_BAD_PRICE, OPC_CHECK_DEBIT_CREDIT};
+    static const uint64_t contra_numbers[] = {OPC_ACCEPTED, OPC_BAD_PRICE, OPC_BAD_SHARES,
+                                              OPC_CHECK_DEBIT_CREDIT};
     const struct made_order accepted = order_given(OPC_ACCEPTED);
     for (size_t bit = 0; bit < 64; bit++) {
         for (size_t i = 0; i < COUNT(contra_numbers); i++) {
@@ -342,9 +346,10 @@ static void test_lengths_of_legs(void) {
     }
 }
 
-/* 9 and 10 in both orders, but for a lower number of their own. */
+/* 9 and 10 in both orders, but for a number of their own that comes before. */
 static void expect_in_terms(void *made, uint64_t number, const char *what) {
-    static const uint64_t own[] = {OPC_ACCEPTED, OPC_CHECK_DEBIT_CREDIT, OPC_BAD_PRICE};
+    static const uint64_t own[] = {OPC_ACCEPTED, OPC_CHECK_DEBIT_CREDIT, OPC_BAD_PRICE,
+                                   OPC_BAD_SHARES};
     for (size_t i = 0; i < COUNT(own) * COUNT(own); i++) {
         uint64_t agency_own = own[i % COUNT(own)], contra_own = own[i / COUNT(own)];
         struct made_order agency = order_given(agency_own), contra = order_given(contra_own);

@@ -1,10 +1,13 @@
 /*
- * Holds the tallied check to the order check and to exact tallies. Exit status 1 and a message on
- * the first failure, one line with the number of checks otherwise.
+ * Holds the tallied check to the answers of the files in cases/, to the order check and to exact
+ * tallies. Exit status 1 and a message on the first failure, one line with the number of checks
+ * otherwise.
  */
 #define _DEFAULT_SOURCE /* for lent_bytes.h */
 #include "answers.h"
+#include "cases.h"
 #include "expect.h"
+#include "expect_answers.h"
 #include "given_orders.h"
 #include "lent_bytes.h"
 #include "made_orders.h"
@@ -19,6 +22,7 @@ static const char *const test_name = "test_tallies";
 static struct opc_tally now;
 
 static void print_tried(void) {
+    print_case();
     fprintf(stderr,
             "  tally before: seen %" PRIu64 ", refused %" PRIu64 ", accepted %" PRIu64
             ", rejected %" PRIu64 "\n",
@@ -79,6 +83,18 @@ static void expect_not_counted(const struct made_order *made, struct opc_tally t
     expect(same_tally(&after, &tally), "a tally that was refused is changed");
 }
 
+static void hold_order(const struct request *request, const char *words) {
+    const struct opc_tally before = {6, 1, 2, 3};
+    struct made_order m = order_of(&request->order, &request->terms);
+    struct opc_tally tally = before;
+    struct opc_answer a = answer(&m, &tally);
+    const struct opc_tally expected = counted(before, a.number);
+    expect_words(&a, words);
+    expect(same_tally(&tally, &expected), "another tally after a case");
+}
+
+static void test_cases(void) { hold_cases(REQUEST_ORDER, hold_order); }
+
 /* Each number of the order check, counted as its kind from a fresh tally on. */
 static void test_numbers(void) {
     struct opc_tally tally = OPC_FRESH_TALLY;
@@ -88,8 +104,8 @@ static void test_numbers(void) {
         expect(answer(&m, &alone).number == order_numbers[i], "not the number that was meant");
         expect_counted(&m, &tally);
     }
-    /* Of the list of numbers: nine refusals, one accepted, six checks. */
-    const struct opc_tally expected = {.seen = 16, .refused = 9, .accepted = 1, .rejected = 6};
+    /* Of the list of numbers: ten refusals, one accepted, six checks. */
+    const struct opc_tally expected = {.seen = 17, .refused = 10, .accepted = 1, .rejected = 6};
     now = tally;
     expect(same_tally(&tally, &expected), "the tally of one check of each number");
 }
@@ -135,9 +151,9 @@ static void test_null(void) {
     expect(same_tally(&tally, &expected), "the tally of NULL with length 0");
 }
 
-/* Any order, valid or damaged. */
+/* Any order, with shares or without, valid or damaged. */
 static struct made_order any_order(void) {
-    struct made_order m = random_order(one_in(3) ? 1 : between(3, OPC_MOST_LEGS));
+    struct made_order m = random_either(one_in(3) ? 1 : between(3, OPC_MOST_LEGS));
     if (legs_of(&m) > 1 && one_in(3)) {
         damage(&m, refusals[below(REFUSALS)]);
     }
@@ -195,6 +211,7 @@ static void test_whole_session(void) {
 }
 
 int main(void) {
+    test_cases();
     test_numbers();
     test_good_tallies();
     test_bad_tallies();

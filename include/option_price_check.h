@@ -43,7 +43,7 @@ extern "C" {
 #endif
 
 /* Of this face: one more with each change of an entry, a struct, a number or a limit. */
-#define OPC_VERSION 3
+#define OPC_VERSION 4
 
 /* What a number says of an order, a message, a quote or a symbol. */
 enum opc_outcome {
@@ -73,7 +73,7 @@ enum opc_outcome {
     ROW(OPC_SERIES_TWICE, 6, REFUSED, "trading firm", "series twice", "a series is there twice")   \
     ROW(OPC_ROOTS_DIFFER, 7, REFUSED, "trading firm", "roots differ", "the roots differ")          \
     ROW(OPC_BAD_PRICE, 8, REFUSED, "trading firm", "price",                                        \
-        "the price is too large, or has the wrong sign for one leg")                               \
+        "the price is too large, or has the wrong sign for one leg without shares")                \
     ROW(OPC_BAD_SETTING, 9, REFUSED, "exchange's settings", "setting",                             \
         "one is outside its limits")                                                               \
     ROW(OPC_BAD_MARKET, 10, REFUSED, "feed", "market value",                                       \
@@ -100,7 +100,9 @@ enum opc_outcome {
     ROW(OPC_BAD_TAG, 31, REFUSED, "trading firm", "tag",                                           \
         "a needed tag is missing, repeated or out of sequence")                                    \
     ROW(OPC_BAD_VALUE, 32, REFUSED, "trading firm", "value",                                       \
-        "the value of a needed tag is not of its form")
+        "the value of a needed tag is not of its form")                                            \
+    ROW(OPC_BAD_SHARES, 33, REFUSED, "trading firm", "shares",                                     \
+        "the share count is beyond its limit")
 
 #define OPC_ENUMERATOR(name, number, outcome, author, word, meaning) name = number,
 enum opc_number { OPC_NUMBERS(OPC_ENUMERATOR) };
@@ -231,12 +233,17 @@ static inline void opc_write_count(int64_t count, uint8_t out[OPC_COUNT_LENGTH])
 }
 
 /*
- * An order of 1 to 16 legs. Money is in mills (0.001 dollar). A flag: 0 is no, any other value yes.
+ * An order of 1 to 16 legs, with or without shares. Money is in mills (0.001 dollar). A flag: 0 is
+ * no, any other value yes.
  *
  * A leg is a symbol and a signed count, positive to buy and negative to sell, 1 to 10000 in size.
  * The price is for one unit, which has the counts divided by their greatest common divisor:
- * positive is paid, negative received, at most 1000000000000 in size; of one leg bought it is above
- * 0, of one leg sold below.
+ * positive is paid, negative received, at most 1000000000000 in size; of one leg without shares it
+ * is above 0 if bought, below if sold.
+ *
+ * Shares go with the options as one signed count: positive bought, negative sold, 0 none, at most
+ * 1000000 in size. An initializer that does not name them leaves 0. With shares the order is a
+ * complex one, even with one leg; its unit, class, shape and pairings come from the options alone.
  */
 struct opc_order {
     const uint8_t *symbols; /* the legs' symbols end to end, 21 bytes each */
@@ -248,6 +255,7 @@ struct opc_order {
     uint64_t stop;    /* flag: a stop order */
     uint64_t manual;  /* flag: manual routing */
     uint64_t opening; /* flag: in the opening process */
+    int64_t shares;   /* positive bought, negative sold, 0 none */
 };
 
 /*
@@ -299,9 +307,9 @@ OPC_STATIC_ASSERT(sizeof(struct opc_settings) == OPC_SETTINGS_COUNT * sizeof(uin
     }
 
 /*
- * The market in the class of options, and in the series of a quote or of an order of one leg. Each
- * price is in mills, 1 to 1000000000, and 0 where it is missing. A flag: 0 is no, any other value
- * yes.
+ * The market in the class of options, and in the series of a quote or of an order of one leg
+ * without shares. Each price is in mills, 1 to 1000000000, and 0 where it is missing. A flag: 0 is
+ * no, any other value yes.
  *
  * The NBBO, which is the NBB and the NBO, is unavailable where both are missing, locked where they
  * are equal and present, crossed where both are present and the NBB is above the NBO.
@@ -348,8 +356,9 @@ struct opc_answer {
  *     OPC_BAD_COUNT            some leg's count is not 1 to 10000 in size;
  *     OPC_SERIES_TWICE         some two legs have one symbol;
  *     OPC_ROOTS_DIFFER         some two legs have different roots;
- *     OPC_BAD_PRICE            the price is above 1000000000000 in size, or one leg is bought at a
- *                              price not above 0, or one leg is sold at a price not below 0;
+ *     OPC_BAD_PRICE            the price is above 1000000000000 in size, or one leg without shares
+ *                              is bought at a price not above 0, or sold at a price not below 0;
+ *     OPC_BAD_SHARES           the shares are above 1000000 in size;
  *   of the exchange's settings,
  *     OPC_BAD_SETTING          settings_len is not OPC_SETTINGS_COUNT, or a setting is outside its
  *                              limits, used or not, switched on or off;
@@ -357,19 +366,22 @@ struct opc_answer {
  *     OPC_BAD_MARKET           market_len is not OPC_MARKET_COUNT, or the phase or a value is
  *                              outside its limits, used or not;
  *   the order is valid, and rejected by a check that is switched on,
- *     OPC_CHECK_PUT            one leg, a put bought at its strike or above; no market order in
- *                              the opening process;
- *     OPC_CHECK_CALL           one leg, a call bought at the underlying's value or above; not where
- *                              that is missing, in an adjusted class, in extended hours, or for a
+ *     OPC_CHECK_PUT            one leg without shares, a put bought at its strike or above; no
  *                              market order in the opening process;
- *     OPC_CHECK_BUY_BUY        a limit order of two or more legs, all bought (all sold), that pays
- *                              (receives) less than the unit's contracts times the net increment;
- *     OPC_CHECK_DEBIT_CREDIT   two or more legs, a debit at a negative price (limit orders only),
- *                              or a credit at a positive price;
- *     OPC_CHECK_MAXIMUM_VALUE  a vertical, a true butterfly or a box, at a price whose size is
- *                              above its maximum value and the allowance together;
- *     OPC_CHECK_TICK_DISTANCE  one leg, a limit order without stop or manual flag, bought further
- *                              above its reference than the distance, or sold further under it;
+ *     OPC_CHECK_CALL           one leg without shares, a call bought at the underlying's value or
+ *                              above; not where that is missing, in an adjusted class, in extended
+ *                              hours, or for a market order in the opening process;
+ *     OPC_CHECK_BUY_BUY        a limit order of two or more legs, or of one with shares, whose
+ *                              options, and shares if it has any, are all bought (all sold), and
+ *                              that pays (receives) less than the unit's option contracts times
+ *                              the net increment;
+ *     OPC_CHECK_DEBIT_CREDIT   two or more legs without shares, a debit at a negative price (limit
+ *                              orders only), or a credit at a positive price;
+ *     OPC_CHECK_MAXIMUM_VALUE  a vertical, a true butterfly or a box without shares, at a price
+ *                              whose size is above its maximum value and the allowance together;
+ *     OPC_CHECK_TICK_DISTANCE  one leg without shares, a limit order without stop or manual flag,
+ *                              bought further above its reference than the distance, or sold
+ *                              further under it;
  *   otherwise
  *     OPC_ACCEPTED.
  *
@@ -391,20 +403,21 @@ struct opc_answer {
  */
 uint64_t OPC_CALL opc_check_order(const uint8_t *symbols, size_t symbols_len, const uint8_t *counts,
                                   size_t counts_len, int64_t price, uint64_t kind, uint64_t stop,
-                                  uint64_t manual, uint64_t opening, const uint64_t *settings,
-                                  size_t settings_len, const uint64_t *market, size_t market_len,
-                                  uint64_t *class_, uint64_t *shape, uint64_t *pairings);
+                                  uint64_t manual, uint64_t opening, int64_t shares,
+                                  const uint64_t *settings, size_t settings_len,
+                                  const uint64_t *market, size_t market_len, uint64_t *class_,
+                                  uint64_t *shape, uint64_t *pairings);
 
 /* opc_check_order, with order, settings, market and answer in structs. */
 static inline struct opc_answer opc_answer_order(const struct opc_order *order,
                                                  const struct opc_settings *settings,
                                                  const struct opc_market *market) {
     struct opc_answer answer;
-    answer.number =
-        opc_check_order(order->symbols, order->symbols_len, order->counts, order->counts_len,
-                        order->price, order->kind, order->stop, order->manual, order->opening,
-                        (const uint64_t *)settings, OPC_SETTINGS_COUNT, (const uint64_t *)market,
-                        OPC_MARKET_COUNT, &answer.class_, &answer.shape, &answer.pairings);
+    answer.number = opc_check_order(
+        order->symbols, order->symbols_len, order->counts, order->counts_len, order->price,
+        order->kind, order->stop, order->manual, order->opening, order->shares,
+        (const uint64_t *)settings, OPC_SETTINGS_COUNT, (const uint64_t *)market, OPC_MARKET_COUNT,
+        &answer.class_, &answer.shape, &answer.pairings);
     return answer;
 }
 
@@ -439,14 +452,12 @@ struct opc_tally {
  * they are as opc_check_order sets them; *seen is one more than it was, and so is *accepted,
  * *rejected or *refused, as opc_outcome_of says of the number.
  */
-uint64_t OPC_CALL opc_check_order_tallied(const uint8_t *symbols, size_t symbols_len,
-                                          const uint8_t *counts, size_t counts_len, int64_t price,
-                                          uint64_t kind, uint64_t stop, uint64_t manual,
-                                          uint64_t opening, const uint64_t *settings,
-                                          size_t settings_len, const uint64_t *market,
-                                          size_t market_len, uint64_t *class_, uint64_t *shape,
-                                          uint64_t *pairings, uint64_t *seen, uint64_t *refused,
-                                          uint64_t *accepted, uint64_t *rejected);
+uint64_t OPC_CALL opc_check_order_tallied(
+    const uint8_t *symbols, size_t symbols_len, const uint8_t *counts, size_t counts_len,
+    int64_t price, uint64_t kind, uint64_t stop, uint64_t manual, uint64_t opening, int64_t shares,
+    const uint64_t *settings, size_t settings_len, const uint64_t *market, size_t market_len,
+    uint64_t *class_, uint64_t *shape, uint64_t *pairings, uint64_t *seen, uint64_t *refused,
+    uint64_t *accepted, uint64_t *rejected);
 
 /* opc_check_order_tallied, with order, settings, market, tally and answer in structs. */
 static inline struct opc_answer opc_answer_order_tallied(const struct opc_order *order,
@@ -456,16 +467,16 @@ static inline struct opc_answer opc_answer_order_tallied(const struct opc_order 
     struct opc_answer answer;
     answer.number = opc_check_order_tallied(
         order->symbols, order->symbols_len, order->counts, order->counts_len, order->price,
-        order->kind, order->stop, order->manual, order->opening, (const uint64_t *)settings,
-        OPC_SETTINGS_COUNT, (const uint64_t *)market, OPC_MARKET_COUNT, &answer.class_,
-        &answer.shape, &answer.pairings, &tally->seen, &tally->refused, &tally->accepted,
-        &tally->rejected);
+        order->kind, order->stop, order->manual, order->opening, order->shares,
+        (const uint64_t *)settings, OPC_SETTINGS_COUNT, (const uint64_t *)market, OPC_MARKET_COUNT,
+        &answer.class_, &answer.shape, &answer.pairings, &tally->seen, &tally->refused,
+        &tally->accepted, &tally->rejected);
     return answer;
 }
 
 /*
- * An order as a message, the New Order Multileg of FIX 4.4. The flags come from the host, whatever
- * the message says: 0 is no, any other value yes.
+ * An order as a message, the New Order Multileg of FIX 4.4; it has no shares. The flags come from
+ * the host, whatever the message says: 0 is no, any other value yes.
  *
  * A field is a tag of 1 to 9 digits that does not begin with 0, a '=', a value of any bytes but
  * byte 1, perhaps none, and byte 1. A '|', which stands for byte 1 where messages are printed, is
@@ -510,9 +521,9 @@ struct opc_fix {
  *     OPC_BAD_VALUE  a value of 40, 44, 555, 600, 623 or 624 is not of its form, in legs after the
  *                    16th too;
  *   otherwise
- *     the number that opc_check_order gives for the legs in the message, its price and kind, and
- *     the flags. It is never OPC_NOT_21_BYTES; of no leg, or more than 16, it is
- *     OPC_BAD_LEG_COUNT.
+ *     the number that opc_check_order gives for the legs in the message, its price and kind, the
+ *     flags and no shares. It is never OPC_NOT_21_BYTES or OPC_BAD_SHARES; of no leg, or more than
+ *     16, it is OPC_BAD_LEG_COUNT.
  *
  * *class_, *shape and *pairings are set as opc_check_order sets them, and to 0 where the message is
  * refused. The sequence of the groups does not matter to any of the four.
@@ -609,12 +620,13 @@ struct opc_pair_answer {
 uint64_t OPC_CALL opc_check_pair(
     const uint8_t *agency_symbols, size_t agency_symbols_len, const uint8_t *agency_counts,
     size_t agency_counts_len, int64_t agency_price, uint64_t agency_kind, uint64_t agency_stop,
-    uint64_t agency_manual, uint64_t agency_opening, const uint8_t *contra_symbols,
-    size_t contra_symbols_len, const uint8_t *contra_counts, size_t contra_counts_len,
-    int64_t contra_price, uint64_t contra_kind, uint64_t contra_stop, uint64_t contra_manual,
-    uint64_t contra_opening, uint64_t continue_unpaired, const uint64_t *settings,
-    size_t settings_len, const uint64_t *market, size_t market_len, uint64_t *contra_number,
-    uint64_t *agency_passes, uint64_t *contra_passes);
+    uint64_t agency_manual, uint64_t agency_opening, int64_t agency_shares,
+    const uint8_t *contra_symbols, size_t contra_symbols_len, const uint8_t *contra_counts,
+    size_t contra_counts_len, int64_t contra_price, uint64_t contra_kind, uint64_t contra_stop,
+    uint64_t contra_manual, uint64_t contra_opening, int64_t contra_shares,
+    uint64_t continue_unpaired, const uint64_t *settings, size_t settings_len,
+    const uint64_t *market, size_t market_len, uint64_t *contra_number, uint64_t *agency_passes,
+    uint64_t *contra_passes);
 
 /* opc_check_pair, with pair, settings, market and answer in structs. */
 static inline struct opc_pair_answer opc_answer_pair(const struct opc_pair *pair,
@@ -625,11 +637,12 @@ static inline struct opc_pair_answer opc_answer_pair(const struct opc_pair *pair
     struct opc_pair_answer answer;
     answer.agency_number = opc_check_pair(
         agency->symbols, agency->symbols_len, agency->counts, agency->counts_len, agency->price,
-        agency->kind, agency->stop, agency->manual, agency->opening, contra->symbols,
-        contra->symbols_len, contra->counts, contra->counts_len, contra->price, contra->kind,
-        contra->stop, contra->manual, contra->opening, pair->continue_unpaired,
-        (const uint64_t *)settings, OPC_SETTINGS_COUNT, (const uint64_t *)market, OPC_MARKET_COUNT,
-        &answer.contra_number, &answer.agency_passes, &answer.contra_passes);
+        agency->kind, agency->stop, agency->manual, agency->opening, agency->shares,
+        contra->symbols, contra->symbols_len, contra->counts, contra->counts_len, contra->price,
+        contra->kind, contra->stop, contra->manual, contra->opening, contra->shares,
+        pair->continue_unpaired, (const uint64_t *)settings, OPC_SETTINGS_COUNT,
+        (const uint64_t *)market, OPC_MARKET_COUNT, &answer.contra_number, &answer.agency_passes,
+        &answer.contra_passes);
     return answer;
 }
 

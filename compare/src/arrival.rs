@@ -20,6 +20,8 @@ pub struct Arrival {
     pub stop: u64,
     pub manual: u64,
     pub opening: u64,
+    /// Positive bought, negative sold, 0 none.
+    pub shares: i64,
     pub settings: Vec<u64>,
     pub market: Vec<u64>,
 }
@@ -47,7 +49,7 @@ impl Answer {
 }
 
 impl Arrival {
-    /// A limit order without flags, under the settings and market that head the examples.
+    /// A limit order without flags or shares, under the settings and market that head the examples.
     pub fn limit(legs: &[RawLeg], price: i64) -> Self {
         Arrival {
             symbols: legs.iter().flat_map(|(symbol, _)| *symbol).collect(),
@@ -57,6 +59,7 @@ impl Arrival {
             stop: 0,
             manual: 0,
             opening: 0,
+            shares: 0,
             settings: EXAMPLE_SETTINGS.to_vec(),
             market: EXAMPLE_MARKET.to_vec(),
         }
@@ -101,16 +104,24 @@ impl Arrival {
         legs.collect::<Vec<_>>().join(", ")
     }
 
-    /// Four words: symbol bytes and count bytes in hexadecimal, price, kind and flags. A dash stands
-    /// for an empty slice.
+    /// The same order with so many shares.
+    pub fn with_shares(&self, shares: i64) -> Self {
+        Arrival {
+            shares,
+            ..self.clone()
+        }
+    }
+
+    /// Five words: symbol bytes and count bytes in hexadecimal, price, kind and flags, shares. A
+    /// dash stands for an empty slice.
     pub fn order_as_text(&self) -> String {
-        let order = [self.kind, self.stop, self.manual, self.opening];
+        let order = list(&[self.kind, self.stop, self.manual, self.opening]);
         let (symbols, counts) = (hexadecimal(&self.symbols), hexadecimal(&self.counts));
-        format!("{symbols} {counts} {} {}", self.price, list(&order))
+        format!("{symbols} {counts} {} {order} {}", self.price, self.shares)
     }
 }
 
-/// Six words: those of the order, settings, market.
+/// Seven words: those of the order, settings, market.
 impl fmt::Display for Arrival {
     fn fmt(&self, f: &mut fmt::Formatter) -> fmt::Result {
         let (settings, market) = (list(&self.settings), list(&self.market));
@@ -123,8 +134,8 @@ impl FromStr for Arrival {
 
     fn from_str(line: &str) -> Result<Self, String> {
         let words: Vec<&str> = line.split_whitespace().collect();
-        let [symbols, counts, price, order, settings, market] = words[..] else {
-            return Err(format!("{} words instead of six", words.len()));
+        let [symbols, counts, price, order, shares, settings, market] = words[..] else {
+            return Err(format!("{} words instead of seven", words.len()));
         };
         let [kind, stop, manual, opening] = just(order)?;
         Ok(Arrival {
@@ -135,6 +146,7 @@ impl FromStr for Arrival {
             stop,
             manual,
             opening,
+            shares: shares.parse().map_err(|_| format!("shares {shares}"))?,
             settings: numbers(settings)?,
             market: numbers(market)?,
         })

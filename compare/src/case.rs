@@ -69,13 +69,14 @@ impl Case for Arrival {
 fn order_described(arrival: &Arrival) -> String {
     format!(
         "  legs: {}
-  price {}, kind {}, stop {}, manual {}, opening {}",
+  price {}, kind {}, stop {}, manual {}, opening {}, shares {}",
         arrival.legs_as_text(),
         arrival.price,
         arrival.kind,
         arrival.stop,
         arrival.manual,
         arrival.opening,
+        arrival.shares,
     )
 }
 

@@ -153,10 +153,21 @@ impl<'a> Rest<'a> {
     fn flags<const N: usize>(&mut self, words: [&str; N]) -> Result<[u64; N], String> {
         let mut flags = [0; N];
         while !self.peek().is_empty() {
-            let known = |word| words.iter().position(|&known| known == word);
-            flags[self.take("a word", |word| known(word).filter(|&at| flags[at] == 0))?] = 1;
+            self.flag(words, &mut flags)?;
         }
         Ok(flags)
+    }
+
+    /// Sets the flag of the next word.
+    fn flag<const N: usize>(
+        &mut self,
+        words: [&str; N],
+        flags: &mut [u64; N],
+    ) -> Result<(), String> {
+        let known = |word| words.iter().position(|&known| known == word);
+        let place = self.take("a word", |word| known(word).filter(|&at| flags[at] == 0))?;
+        flags[place] = 1;
+        Ok(())
     }
 
     fn answer<T>(&mut self, read: fn(&str) -> Option<T>) -> Result<T, String> {
@@ -192,16 +203,31 @@ impl<'a> Rest<'a> {
                 legs.push(self.leg()?);
             }
         }
-        let [kind, stop, manual, opening] = self.flags(["market", "stop", "manual", "opening"])?;
+        let ([kind, stop, manual, opening], shares) = self.flags_and_shares()?;
         Ok(Arrival {
             kind,
             stop,
             manual,
             opening,
+            shares,
             settings: terms.settings.clone(),
             market: terms.market.clone(),
             ..Arrival::limit(&legs, price)
         })
+    }
+
+    /// Flags, and the shares with their count at any place among them, 0 without.
+    fn flags_and_shares(&mut self) -> Result<([u64; 4], i64), String> {
+        let (mut flags, mut shares) = ([0; 4], None);
+        while !self.peek().is_empty() {
+            if self.peek() == b"shares" && shares.is_none() {
+                self.field();
+                shares = Some(self.count("a share count")?);
+            } else {
+                self.flag(["market", "stop", "manual", "opening"], &mut flags)?;
+            }
+        }
+        Ok((flags, shares.unwrap_or(0)))
     }
 
     /// The mark or none, and two orders.
@@ -237,12 +263,7 @@ impl<'a> Rest<'a> {
     fn message(&mut self, terms: &Terms) -> Result<Message, String> {
         let mut flags = [0; 3];
         while let [b'a'..=b'z', ..] = Rest(self.0).peek() {
-            let known = |word| {
-                ["stop", "manual", "opening"]
-                    .iter()
-                    .position(|&known| known == word)
-            };
-            flags[self.take("a word", |word| known(word).filter(|&at| flags[at] == 0))?] = 1;
+            self.flag(["stop", "manual", "opening"], &mut flags)?;
         }
         let text = self.0.strip_prefix(b" ").unwrap_or(self.0);
         let begins = |&at: &usize| {
@@ -278,10 +299,14 @@ impl<'a> Rest<'a> {
     }
 
     fn leg(&mut self) -> Result<RawLeg, String> {
-        let with_sign = |text: &&str| text.starts_with(['+', '-']);
-        let count = |text| signed(Some(text).filter(with_sign)?, whole);
-        let count = self.take("a count", count)?;
+        let count = self.count("a count")?;
         Ok((self.series()?, count))
+    }
+
+    /// A sign and digits.
+    fn count(&mut self, what: &str) -> Result<i64, String> {
+        let with_sign = |text: &&str| text.starts_with(['+', '-']);
+        self.take(what, |text| signed(Some(text).filter(with_sign)?, whole))
     }
 
     /// A symbol as it is, or its parts in the fields of the layout, which may forbid them. Parts that
@@ -419,6 +444,22 @@ order 1 #= 0 debit, other
 order 1 #= 0 debit, butterfly, 1
 order 1 buy #= 3
 order 1 stop stop #= 3
+order 1 shares #= 3
+order 1 shares 100 #= 3
+order 1 shares +-100 #= 3
+order 1 shares +1.0 #= 3
+order 1 shares + #= 3
+order 1 shares +9223372036854775808 #= 3
+order 1 shares -9223372036854775809 #= 3
+order 1 shares stop +100 #= 3
+order 1 shares ; #= 3
+order 1 shares +0 shares +0 #= 3
+order 1 shares +100 stop shares +100 #= 3
+order 1 Shares +100 #= 3
+order 1 stop +100 #= 3
+order shares +100 1 #= 3
+order 1 shares +100 +1 XYZ 270115 C 20 #= 3
+order 1 shares +100 #= 33 debit, other, 0
 order 1 1 XYZ 270115 C 20 #= 4
 order 1 +1 XYZ 270115 C #= 4
 order 1 +1 XYZ 270115 C -20 #= 4
@@ -460,6 +501,9 @@ pair unpaired unpaired 1 / 1 #= 3 stopped / 3 stopped
 pair unpaired / 1 #= 3 stopped / 3 stopped
 pair paired 1 / 1 #= 3 stopped / 3 stopped
 pair 1 stop stop / 1 #= 3 stopped / 3 stopped
+pair 1 shares / +100 1 #= 3 stopped / 3 stopped
+pair 1 shares / 1 shares +100 #= 3 stopped / 3 stopped
+pair shares +100 1 / 1 #= 3 stopped / 3 stopped
 pair 1 +1 XYZ 270115 C / 1 #= 3 stopped / 3 stopped
 pair 1 +1 / 270115 C 20 / 1 #= 4 stopped / 3 stopped
 pair 1 +1 A / B 270115C00020000 / 1 #= 4 stopped / 3 stopped
@@ -467,8 +511,12 @@ pair 1 +1 XYZ 270115 C 20; / 1 #= 3 stopped / 3 stopped
 quote XYZ 270115 C 20 1 2
 quote XYZ 270115 C 20 1 #= 0
 quote XYZ 270115 C 20 1 2 stop #= 0
+quote XYZ 270115 C 20 1 2 shares +100 #= 0
+quote XYZ 270115 C 20 1 2 #= 33
 quote XYZ 270115 C 20 1 2 #= 3
-quote XYZ 270115 C 20 1 2 #= 20 cancelled";
+quote XYZ 270115 C 20 1 2 #= 20 cancelled
+fix shares +100 | #= 30
+fix | #= 33";
 
     #[test]
     fn what_cannot_be_read_is_an_error_with_its_place() {
@@ -484,12 +532,14 @@ quote XYZ 270115 C 20 1 2 #= 20 cancelled";
         let cases = read(
             "set nbo=1.2 phase=2 # both\r\n\
             order -0.02 -1 a 270229 C 20;+2\tX Y#Z 270115C00020000 opening market #= 4\n\
+            order 1 stop\tshares -9223372036854775808 manual #= 3\n\
+            order 1 shares +100 #= 33\n\
             reset\n\
             quote ABCDEFG 270115 P 0.5 1 2.05 resting #= 20 cancel",
         );
         let Cases { orders, quotes, .. } = cases.unwrap_or_else(|trouble| panic!("{trouble}"));
         let [order, quote] = [&orders[0].place, &quotes[0].place];
-        assert_eq!([order, quote], ["file:2", "file:4"]);
+        assert_eq!([order, quote], ["file:2", "file:6"]);
         let mut order = Arrival::limit(
             &[
                 (*b"a     270229C00020000", -1),
@@ -501,6 +551,12 @@ quote XYZ 270115 C 20 1 2 #= 20 cancelled";
         (order.market[market::NBO], order.market[market::PHASE]) = (1_200, market::HALT);
         assert_eq!(orders[0].case, order);
         assert_eq!(orders[0].answer, Answer::refusal(4));
+        let stock = [&orders[1].case, &orders[2].case].map(|order| {
+            let flags = [order.kind, order.stop, order.manual, order.opening];
+            (order.shares, flags, order.legs().len())
+        });
+        assert_eq!(stock, [(i64::MIN, [0, 1, 1, 0], 0), (100, [0; 4], 0)]);
+        assert_eq!(orders[2].answer, Answer::refusal(33));
         let mut quote = Quote::new(&[0; 21], 1_000, 2_050);
         quote.resting = 1;
         assert_eq!(quotes[0].case, quote);
@@ -511,9 +567,10 @@ quote XYZ 270115 C 20 1 2 #= 20 cancelled";
     fn pairs_are_read() {
         let cases = read(
             "set phase=2\n\
-            pair 1 / -0.5 stop #= 3 stopped / 8 stopped\n\
+            pair 1 shares +7 / -0.5 stop #= 3 stopped / 8 stopped\n\
             pair unpaired 2 +1 A/B   270115C00020000 opening\t/ \
-                -2 -1 // 270115 C 20; +1 A 270115 P 20 market manual #= 0 passes / 24 stopped",
+                -2 -1 // 270115 C 20; +1 A 270115 P 20 market shares -7 manual \
+                #= 0 passes / 24 stopped",
         );
         let pairs = cases.unwrap_or_else(|trouble| panic!("{trouble}")).pairs;
         let order = |legs: &[RawLeg], price| {
@@ -522,7 +579,7 @@ quote XYZ 270115 C 20 1 2 #= 20 cancelled";
             order
         };
         let [mut agency, mut contra] = [order(&[], 1_000), order(&[], -500)];
-        contra.stop = 1;
+        (agency.shares, contra.stop) = (7, 1);
         assert_eq!(pairs[0].case, Pair::of(&agency, &contra, 0));
         let answer = |agency_number, contra_number, agency_passes| PairAnswer {
             agency_number,
@@ -535,6 +592,7 @@ quote XYZ 270115 C 20 1 2 #= 20 cancelled";
         agency = order(&[(*b"A/B   270115C00020000", 1)], 2_000);
         contra = order(&[strokes, (*b"A     270115P00020000", 1)], -2_000);
         (agency.opening, contra.kind, contra.manual) = (1, 1, 1);
+        contra.shares = -7;
         assert_eq!(pairs[1].case, Pair::of(&agency, &contra, 1));
         assert_eq!(pairs[1].answer, answer(0, 24, 1));
         assert_eq!(

@@ -21,6 +21,8 @@ pub struct Order {
     pub stop: bool,
     pub manual: bool,
     pub opening: bool,
+    /// Positive bought, negative sold, 0 none.
+    pub shares: i128,
     pub class: u64,
     pub shape: Shape,
 }
@@ -39,9 +41,10 @@ pub fn all(order: &Order, settings: &[u64], market: &[u64]) -> [(u64, bool); 6] 
     ]
 }
 
+/// The leg of an order that has one, and no shares.
 fn simple(order: &Order) -> Option<&Leg> {
     match &order.units[..] {
-        [leg] => Some(leg),
+        [leg] if order.shares == 0 => Some(leg),
         _ => None,
     }
 }
@@ -72,14 +75,14 @@ fn buy_buy_sell_sell(order: &Order, settings: &[u64]) -> bool {
     let sold: i128 = order.units.iter().map(|leg| (-leg.count).max(0)).sum();
     let increment = i128::from(settings[NET_INCREMENT]);
     match (bought, sold) {
-        (_, 0) => order.price < bought * increment,
-        (0, _) => -order.price < sold * increment,
+        (_, 0) if order.shares >= 0 => order.price < bought * increment,
+        (0, _) if order.shares <= 0 => -order.price < sold * increment,
         _ => false,
     }
 }
 
 fn debit_credit(order: &Order) -> bool {
-    if simple(order).is_some() {
+    if simple(order).is_some() || order.shares != 0 {
         return false;
     }
     let paid_for_credit = order.class == CREDIT && order.price > 0;
@@ -88,6 +91,9 @@ fn debit_credit(order: &Order) -> bool {
 }
 
 fn maximum_value(order: &Order, settings: &[u64]) -> bool {
+    if order.shares != 0 {
+        return false;
+    }
     let most = |maximum| maximum + allowance(settings, maximum);
     let maximum = order.shape.maximum();
     maximum.is_some_and(|maximum| order.price.abs() > most(maximum))

@@ -2,8 +2,7 @@
 //! easily, every choice of faults and of values, and slices of every length.
 
 use crate::{
-    numbers::{ACCEPTED, BAD_MARKET, BAD_SETTING},
-    order::lowest,
+    numbers::{first, ACCEPTED, BAD_MARKET, BAD_SETTING},
     slices::{market, setting},
 };
 
@@ -52,7 +51,7 @@ pub fn every_length(number: u64) -> Vec<(usize, usize, u64)> {
             (BAD_SETTING, settings != setting::LENGTH),
             (BAD_MARKET, market != market::LENGTH),
         ];
-        (settings, market, lowest(&numbers).unwrap_or(ACCEPTED))
+        (settings, market, first(&numbers).unwrap_or(ACCEPTED))
     };
     lengths.into_iter().map(with_number).collect()
 }

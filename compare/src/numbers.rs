@@ -1,5 +1,5 @@
-//! The numbers of document 01, Number and its author, and of document 02, S-1: each once, with its
-//! kind and of what it can be said.
+//! The numbers of document 01, Number and its author, and of document 02, S-1 and S-4: each once,
+//! with its kind and of what it can be said, and which of them comes first.
 
 use Kind::{Accepted, Refused, Rejected};
 use Of::{Message, Order, Quote, Symbol, Tally};
@@ -33,9 +33,15 @@ pub const BAD_TALLY: u64 = 12;
 pub const BAD_FRAME: u64 = 30;
 pub const BAD_TAGS: u64 = 31;
 pub const BAD_VALUE: u64 = 32;
+pub const BAD_SHARES: u64 = 33;
 
-const ALL: [(u64, Kind, &[Of]); 23] = [
-    (ACCEPTED, Accepted, &[Symbol, Order, Message, Quote]),
+/// In the sequence in which they are given: the first that applies, and 0 where no other does. Of
+/// messages 33 is never said, since an order has no shares there.
+const ALL: [(u64, Kind, &[Of]); 24] = [
+    (BAD_TALLY, Refused, &[Tally]),
+    (BAD_FRAME, Refused, &[Message]),
+    (BAD_TAGS, Refused, &[Message]),
+    (BAD_VALUE, Refused, &[Message]),
     (NOT_21_BYTES, Refused, &[Symbol, Order, Quote]),
     (SHORT_BUFFER, Refused, &[Symbol]),
     (3, Refused, &[Order, Message]),
@@ -44,10 +50,10 @@ const ALL: [(u64, Kind, &[Of]); 23] = [
     (6, Refused, &[Order, Message]),
     (7, Refused, &[Order, Message]),
     (8, Refused, &[Order, Message]),
+    (BAD_SHARES, Refused, &[Order]),
     (BAD_SETTING, Refused, &[Order, Message, Quote]),
     (BAD_MARKET, Refused, &[Order, Message, Quote]),
     (11, Refused, &[Quote]),
-    (BAD_TALLY, Refused, &[Tally]),
     (20, Rejected, &[Order, Message, Quote]),
     (21, Rejected, &[Order, Message, Quote]),
     (22, Rejected, &[Order, Message]),
@@ -55,15 +61,24 @@ const ALL: [(u64, Kind, &[Of]); 23] = [
     (24, Rejected, &[Order, Message]),
     (25, Rejected, &[Order, Message]),
     (26, Rejected, &[Quote]),
-    (BAD_FRAME, Refused, &[Message]),
-    (BAD_TAGS, Refused, &[Message]),
-    (BAD_VALUE, Refused, &[Message]),
+    (ACCEPTED, Accepted, &[Symbol, Order, Message, Quote]),
 ];
 
+fn place(number: u64) -> usize {
+    let place = ALL.iter().position(|row| row.0 == number);
+    place.unwrap_or_else(|| panic!("the documents have no number {number}"))
+}
+
 pub fn kind(number: u64) -> Kind {
-    let row = ALL.iter().find(|row| row.0 == number);
-    row.unwrap_or_else(|| panic!("the documents have no number {number}"))
-        .1
+    ALL[place(number)].1
+}
+
+/// Of some numbers, each with whether it applies, the one that is given.
+pub fn first(numbers: &[(u64, bool)]) -> Option<u64> {
+    let applying = numbers.iter().filter(|(_, applies)| *applies);
+    applying
+        .map(|(number, _)| *number)
+        .min_by_key(|&number| place(number))
 }
 
 /// Every number that can be said of something.

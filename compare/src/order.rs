@@ -1,12 +1,12 @@
 //! The whole order check, by another method than the proved one: every rule is a predicate of its
-//! own, all are asked, and the lowest number among those that apply is given.
+//! own, all are asked, and the first number among those that apply is given.
 
 use crate::{
     arrival::{Answer, Arrival},
     checks::{self, Order},
     class,
     legs::{units, Leg},
-    numbers::{ACCEPTED, BAD_MARKET, BAD_SETTING, BAD_SYMBOL, NOT_21_BYTES},
+    numbers::{first, ACCEPTED, BAD_MARKET, BAD_SETTING, BAD_SHARES, BAD_SYMBOL, NOT_21_BYTES},
     osi,
     pairing::{self, Paired},
     shape::Shape,
@@ -19,6 +19,7 @@ const COUNT_LENGTH: usize = 8;
 const MOST_LEGS: usize = 16;
 const LARGEST_COUNT: i128 = 10_000;
 const LARGEST_PRICE: i128 = 1_000_000_000_000;
+const LARGEST_SHARES: i128 = 1_000_000;
 const LARGEST_MARKET_VALUE: u64 = 1_000_000_000;
 
 /// The check, with the quick pairing.
@@ -33,7 +34,7 @@ pub fn check_by_contracts(arrival: &Arrival) -> Answer {
 
 fn check_paired(arrival: &Arrival, pair: fn(&[Leg], bool) -> Paired) -> Answer {
     let legs = RawLegs::of(arrival);
-    if let Some(number) = lowest(&refusals(arrival, &legs)) {
+    if let Some(number) = first(&refusals(arrival, &legs)) {
         return Answer::refusal(number);
     }
     let order_legs = legs.valid();
@@ -48,20 +49,16 @@ fn check_paired(arrival: &Arrival, pair: fn(&[Leg], bool) -> Paired) -> Answer {
         stop: arrival.stop != 0,
         manual: arrival.manual != 0,
         opening: arrival.opening != 0,
+        shares: arrival.shares.into(),
         shape,
     };
     let checks = checks::all(&order, &arrival.settings, &arrival.market);
     Answer {
-        number: lowest(&checks).unwrap_or(ACCEPTED),
+        number: first(&checks).unwrap_or(ACCEPTED),
         class: order.class,
         shape: shape.number(),
         pairings: paired.pairings,
     }
-}
-
-pub fn lowest(numbers: &[(u64, bool)]) -> Option<u64> {
-    let applying = numbers.iter().filter(|(_, applies)| *applies);
-    applying.map(|(number, _)| *number).min()
 }
 
 /// The legs as they arrive; none if the slices do not divide into legs.
@@ -115,11 +112,13 @@ fn signed(bytes: &[u8]) -> i128 {
 }
 
 /// Every refusal with whether it applies.
-fn refusals(arrival: &Arrival, legs: &RawLegs) -> [(u64, bool); 9] {
+fn refusals(arrival: &Arrival, legs: &RawLegs) -> [(u64, bool); 10] {
+    let [price, shares] = [arrival.price, arrival.shares].map(i128::from);
     [
         (BAD_MARKET, !market_is_within_limits(&arrival.market)),
         (BAD_SETTING, !settings_are_within_limits(&arrival.settings)),
-        (8, price_is_wrong(arrival.price.into(), &legs.counts)),
+        (BAD_SHARES, shares.abs() > LARGEST_SHARES),
+        (8, price_is_wrong(price, &legs.counts, shares)),
         (7, some_two(&legs.parts, roots_differ)),
         (6, some_two(&legs.symbols, |one, other| one == other)),
         (5, legs.counts.iter().any(|&count| count_is_wrong(count))),
@@ -146,10 +145,11 @@ fn count_is_wrong(count: i128) -> bool {
     count == 0 || count.abs() > LARGEST_COUNT
 }
 
-fn price_is_wrong(price: i128, counts: &[i128]) -> bool {
+fn price_is_wrong(price: i128, counts: &[i128], shares: i128) -> bool {
     // Of a simple order count and price have the same sign: it pays to buy, and is paid to sell.
+    // Any shares, too many among them, make the order complex.
     let sign_is_wrong = match *counts {
-        [count] => count.signum() != price.signum(),
+        [count] if shares == 0 => count.signum() != price.signum(),
         _ => false,
     };
     price.abs() > LARGEST_PRICE || sign_is_wrong

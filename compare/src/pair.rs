@@ -76,7 +76,7 @@ impl Pair {
     }
 }
 
-/// Twelve words: that it is a pair, the mark, four of the agency order, four of the contra order,
+/// Fourteen words: that it is a pair, the mark, five of the agency order, five of the contra order,
 /// settings, market.
 impl fmt::Display for Pair {
     fn fmt(&self, f: &mut fmt::Formatter) -> fmt::Result {
@@ -98,7 +98,7 @@ impl FromStr for Pair {
     fn from_str(line: &str) -> Result<Self, String> {
         let words: Vec<&str> = line.split_whitespace().collect();
         let [PAIR, mark, sides @ .., settings, market] = &words[..] else {
-            return Err(format!("not '{PAIR}' and eleven words: {line}"));
+            return Err(format!("not '{PAIR}' and thirteen words: {line}"));
         };
         let order = |side: &[&str]| format!("{} {settings} {market}", side.join(" ")).parse();
         let (agency, contra) = sides.split_at(sides.len() / 2);

@@ -1,5 +1,5 @@
 //! The whole quote check, by another method than the proved one. As in `order`, every rule is a
-//! predicate of its own, all are asked, and the lowest number among those that apply is given.
+//! predicate of its own, all are asked, and the first number among those that apply is given.
 //!
 //! 20 and 21 are asked of a simple limit order to buy at the bid. For 26 no distance is compared:
 //! the first price that is rejected is worked out. Money is signed as in `checks`, so an offer is a
@@ -10,8 +10,8 @@ use crate::{
     checks::{self, Order, Seen},
     class::DEBIT,
     legs::Leg,
-    numbers::{ACCEPTED, BAD_MARKET, BAD_SETTING, BAD_SYMBOL, NOT_21_BYTES},
-    order::{lowest, market_is_within_limits, settings_are_within_limits},
+    numbers::{first, ACCEPTED, BAD_MARKET, BAD_SETTING, BAD_SYMBOL, NOT_21_BYTES},
+    order::{market_is_within_limits, settings_are_within_limits},
     osi,
     quote::{Quote, QuoteAnswer},
     shape::Shape,
@@ -23,10 +23,10 @@ const LARGEST_QUOTE: u64 = 1_000_000_000;
 
 pub fn check(quote: &Quote) -> QuoteAnswer {
     let read = osi::read(&quote.symbol);
-    if let Some(number) = lowest(&refusals(quote, read.number)) {
+    if let Some(number) = first(&refusals(quote, read.number)) {
         return QuoteAnswer { number, cancel: 0 };
     }
-    match lowest(&rejections(quote, &read.parts)) {
+    match first(&rejections(quote, &read.parts)) {
         None => QuoteAnswer {
             number: ACCEPTED,
             cancel: 0,
@@ -68,6 +68,7 @@ fn purchase(quote: &Quote, parts: &Parts) -> Order {
         stop: false,
         manual: false,
         opening: false,
+        shares: 0,
         class: DEBIT,
         shape: Shape::Other,
     }

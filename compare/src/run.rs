@@ -8,7 +8,7 @@ use crate::{
     random::{self, Random, SEED_VARIABLE},
     slices::{market, setting},
 };
-use std::collections::BTreeMap;
+use std::{collections::BTreeMap, fmt::Debug};
 
 /// The environment variable that holds one case as a line of text, for the test `replay`.
 pub const CASE_VARIABLE: &str = "COMPARE_CASE";
@@ -171,6 +171,24 @@ to run it again, in compare/:
         }
         self.given_each("passing", &seen.passing, 0..=2, least);
         self.lent_each(least / 10);
+    }
+
+    /// Fails unless just these were met by a test that counts by itself, each at least so often.
+    pub fn require_just<K: Ord + Debug>(
+        &self,
+        what: &str,
+        met: &BTreeMap<K, u64>,
+        all: &[K],
+        least: u64,
+    ) {
+        let name = self.name;
+        for one in all {
+            let times = met.get(one).copied().unwrap_or(0);
+            assert!(times >= least, "{name}: {one:?}: {times}");
+        }
+        assert_eq!(met.len(), all.len(), "{name}: {met:?}");
+        let (number, least) = (met.len(), met.values().min().expect("one at least"));
+        println!("{name}: {number} {what}, each at least {least} times");
     }
 
     fn lent_each(&self, least: u64) {

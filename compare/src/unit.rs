@@ -65,7 +65,7 @@ macro_rules! call {
 /// Calls an entry that answers as the order check does, and may be lent more than the parts of the
 /// answer.
 macro_rules! call_for_answer {
-    ($entry:ident, $case:expr, [$($before:tt)*], [$($more:tt)*]) => {{
+    ($entry:ident, $case:expr, [$($before:tt)*], [$($after:tt)*], [$($more:tt)*]) => {{
         let mut answer = Answer {
             number: UNSET,
             class: UNSET,
@@ -79,6 +79,7 @@ macro_rules! call_for_answer {
                 stop: u64 = $case.stop,
                 manual: u64 = $case.manual,
                 opening: u64 = $case.opening,
+                $($after)*
             ],
             [
                 class: answer.class,
@@ -103,6 +104,7 @@ macro_rules! call_order {
                 price: i64 = $arrival.price,
                 kind: u64 = $arrival.kind,
             ],
+            [shares: i64 = $arrival.shares],
             $more
         )
     };
@@ -116,6 +118,7 @@ macro_rules! call_fix {
                 message: *const u8 = $message.bytes.as_ptr(),
                 message_len: usize = $message.bytes.len(),
             ],
+            [],
             $more
         )
     };
@@ -228,6 +231,7 @@ pub fn check_pair(pair: &Pair) -> PairAnswer {
                 agency_stop: u64 = agency.stop,
                 agency_manual: u64 = agency.manual,
                 agency_opening: u64 = agency.opening,
+                agency_shares: i64 = agency.shares,
                 contra_symbols: *const u8 = contra.symbols.as_ptr(),
                 contra_symbols_len: usize = contra.symbols.len(),
                 contra_counts: *const u8 = contra.counts.as_ptr(),
@@ -237,6 +241,7 @@ pub fn check_pair(pair: &Pair) -> PairAnswer {
                 contra_stop: u64 = contra.stop,
                 contra_manual: u64 = contra.manual,
                 contra_opening: u64 = contra.opening,
+                contra_shares: i64 = contra.shares,
                 continue_unpaired: u64 = pair.continue_unpaired,
             ],
             [

@@ -1,7 +1,7 @@
 //! Orders beyond what a line of a case can say, or too many for lines: slices of every length, every
-//! bit of a count, every byte of a symbol, faults together, and markets of small prices. Each case
-//! names its number, where it is one that the rules give, so both implementations are held to the
-//! rules and not only to each other.
+//! bit of a count and of the shares, every byte of a symbol, faults together, and markets of small
+//! prices. Each case names its number, where it is one that the rules give, so both implementations
+//! are held to the rules and not only to each other.
 
 use compare::{
     arrival::{Answer, Arrival, RawLeg},
@@ -44,6 +44,11 @@ fn undetermined() -> Arrival {
         put(MARCH, 15_000).leg(1),
     ];
     Arrival::limit(&legs, 8_000)
+}
+
+/// A sale of one call beside shares bought, at a price that would be wrong without them.
+fn covered_sale() -> Arrival {
+    Arrival::limit(&[call(MARCH, 20_000).leg(-1)], 1_000).with_shares(100)
 }
 
 /// So many calls bought at rising strikes, at a price that no check rejects.
@@ -97,14 +102,21 @@ fn lengths_around(length: usize, leg: usize) -> Vec<usize> {
     all
 }
 
+/// Every bit alone, every high bit with one in the low bits, and the numbers around a limit, all
+/// with both signs.
+fn signed_numbers(limit: i64) -> Vec<i64> {
+    let mut numbers = vec![0, limit - 1, limit, limit + 1];
+    numbers.extend([i64::MAX, i64::MIN, i64::MIN + 1]);
+    numbers.extend((0..64).map(|bit| 1_i64 << bit));
+    numbers.extend((14..63).map(|bit| (1_i64 << bit) + 1));
+    numbers.extend(numbers.clone().iter().map(|number| number.wrapping_neg()));
+    numbers
+}
+
 #[test]
 fn counts() {
     let mut run = Run::new("counts");
-    let mut counts: Vec<i64> = vec![0, 9_999, 10_000, 10_001, i64::MAX, i64::MIN, i64::MIN + 1];
-    counts.extend((0..64).map(|bit| 1_i64 << bit));
-    counts.extend((14..63).map(|bit| (1_i64 << bit) + 1)); // one in its low bits
-    counts.extend(counts.clone().iter().map(|count| count.wrapping_neg()));
-    for count in counts {
+    for count in signed_numbers(10_000) {
         let number = match count {
             1..=10_000 | -10_000..=-1 => 0,
             _ => 5,
@@ -119,6 +131,22 @@ fn counts() {
         }
     }
     run.finish(&[0, 5], 900);
+}
+
+/// No check rejects these orders, with shares or without.
+#[test]
+fn shares() {
+    let mut run = Run::new("shares");
+    for shares in signed_numbers(1_000_000) {
+        let number = match shares {
+            -1_000_000..=1_000_000 => 0,
+            _ => 33,
+        };
+        for order in [sale(), purchase(), undetermined(), calls(16)] {
+            hold(&mut run, &order.with_shares(shares), number);
+        }
+    }
+    run.finish(&[0, 33], 4 * 240);
 }
 
 /// Every byte at every place of an order with a short root, and of one with the longest.
@@ -165,8 +193,8 @@ fn roots_of_one_byte() {
     run.finish(&[0, 4, 7], 7 * 256);
 }
 
-/// Faults that can be made one on top of the other.
-fn faults() -> [Fault<Arrival>; 9] {
+/// Faults that can be made one on top of the other, the first first.
+fn faults() -> [Fault<Arrival>; 10] {
     [
         (1, |arrival| arrival.symbols.push(b' ')),
         (3, |arrival| {
@@ -188,6 +216,7 @@ fn faults() -> [Fault<Arrival>; 9] {
             append(arrival, series.leg(1));
         }),
         (8, |arrival| arrival.price = -1_000_000_000_001),
+        (33, |arrival| arrival.shares = -1_000_001),
         (9, |arrival| arrival.settings[PERCENTAGE] = 10_001),
         (10, |arrival| arrival.market[PHASE] = 3),
     ]
@@ -200,11 +229,13 @@ fn append(arrival: &mut Arrival, leg: RawLeg) {
     arrival.counts = [one.counts, arrival.counts.clone()].concat();
 }
 
-/// Any faults together, and settings and market of any length: the lowest number is given.
+/// Any faults together, and settings and market of any length: the first number is given.
 #[test]
-fn lowest_number_first() {
+fn first_number_first() {
     let mut run = Run::new("faults together");
-    for (arrival, number) in faults_together(&undetermined(), &faults()) {
+    let orders = [undetermined(), covered_sale()];
+    let together = orders.map(|order| faults_together(&order, &faults()));
+    for (arrival, number) in together.into_iter().flatten() {
         for (settings, market, number) in every_length(number) {
             let mut arrival = arrival.clone();
             arrival.settings.resize(settings, 1);
@@ -212,7 +243,7 @@ fn lowest_number_first() {
             hold(&mut run, &arrival, number);
         }
     }
-    run.finish(&[0, 1, 3, 4, 5, 6, 7, 8, 9, 10], 80 * 512);
+    run.finish(&[0, 1, 3, 4, 5, 6, 7, 8, 9, 10, 33], 2 * 80 * 1_024);
 }
 
 /// Every market over a few values around the limit of a band, at every price next to a limit that one

@@ -3,11 +3,11 @@
 //! where one says how.
 
 use compare::{
-    arrival::{Arrival, RawLeg},
+    arrival::{Answer, Arrival, RawLeg},
     case::Case,
     cases::{self, Expected},
     limits::{every, EXTREMES},
-    numbers::{self, kind, Kind, Of, ACCEPTED, BAD_MARKET, BAD_SETTING, NOT_21_BYTES},
+    numbers::{self, kind, Kind, Of, ACCEPTED, BAD_MARKET, BAD_SETTING, BAD_SHARES, NOT_21_BYTES},
     order,
     pair::Pair,
     quote::{Quote, QuoteAnswer},
@@ -22,15 +22,16 @@ fn numbers_of(what: Of) -> Vec<u64> {
     numbers.filter(|&number| number != NOT_21_BYTES).collect()
 }
 
-/// Holds the cases of all files, among which must be these two.
-fn hold<C: Case>(run: &mut Run, cases: &[Expected<C>], files: [&str; 2]) {
+/// Holds the cases of all files, among which must be those with these names.
+fn hold<C: Case>(run: &mut Run, cases: &[Expected<C>], names: &[&str]) {
     for expected in cases {
         let (case, place) = (&expected.case, &expected.place);
         assert_eq!(case.second(), expected.answer, "{place}");
         run.expect(case, expected.answer, place);
     }
-    for file in files {
-        let held = cases.iter().any(|case| case.place.starts_with(file));
+    for name in names {
+        let file = format!("cases/{name}.desk:");
+        let held = cases.iter().any(|case| case.place.starts_with(&file));
         assert!(held, "{file}");
     }
 }
@@ -39,23 +40,19 @@ fn hold<C: Case>(run: &mut Run, cases: &[Expected<C>], files: [&str; 2]) {
 fn both_hold_every_order() {
     let mut run = Run::new("orders of cases");
     let orders = cases::all().orders;
-    hold(
-        &mut run,
-        &orders,
-        ["cases/orders.desk", "cases/papers.desk"],
-    );
+    hold(&mut run, &orders, &["orders", "papers", "stock_orders"]);
     for order in &orders {
         let by_contracts = order::check_by_contracts(&order.case);
         assert_eq!(by_contracts, order.answer, "{}, by contracts", order.place);
     }
-    run.finish(&numbers_of(Of::Order), 500);
+    run.finish(&numbers_of(Of::Order), 800);
     run.require_classes_and_shapes(1);
 }
 
 #[test]
 fn both_hold_every_message() {
     let mut run = Run::new("messages of cases");
-    hold(&mut run, &cases::all().messages, ["cases/messages.desk"; 2]);
+    hold(&mut run, &cases::all().messages, &["messages"]);
     run.finish(&numbers_of(Of::Message), 150);
 }
 
@@ -64,7 +61,7 @@ fn both_hold_every_message() {
 fn both_hold_every_pair() {
     let mut run = Run::new("pairs of cases");
     let pairs = cases::all().pairs;
-    hold(&mut run, &pairs, ["cases/pairs.desk", "cases/papers.desk"]);
+    hold(&mut run, &pairs, &["pairs", "papers"]);
     run.require_of_pairs(&numbers_of(Of::Order), 1);
     for pair in near(&pairs) {
         let answer = run.compare(&pair);
@@ -75,7 +72,7 @@ fn both_hold_every_pair() {
             "{pair}"
         );
     }
-    run.finish(&numbers_of(Of::Order), 17 * 300);
+    run.finish(&numbers_of(Of::Order), 17 * 350);
 }
 
 /// Whether a quote is resting changes the cancel flag alone, which is set where a check rejects.
@@ -83,11 +80,7 @@ fn both_hold_every_pair() {
 fn both_hold_every_quote() {
     let mut run = Run::new("quotes of cases");
     let quotes = cases::all().quotes;
-    hold(
-        &mut run,
-        &quotes,
-        ["cases/quotes.desk", "cases/papers.desk"],
-    );
+    hold(&mut run, &quotes, &["quotes", "papers"]);
     for quote in quotes {
         let number = quote.answer.number;
         for resting in [0, 1, u64::MAX] {
@@ -130,6 +123,52 @@ fn sequence_and_scale_change_nothing() {
         }
     }
     run.finish(&numbers_of(Of::Order), 2_000);
+}
+
+/// With shares an order meets no check but 22, and that only where all is on one side; nor must the
+/// price of one leg have a sign. Too many shares are refused after what comes before them.
+#[test]
+fn shares_put_to_orders() {
+    let mut run = Run::new("shares put to cases");
+    for order in near(&cases::all().orders) {
+        let (order, legs) = (order.with_shares(0), order.legs());
+        let mut unchecked = of_right_sign(&order);
+        unchecked.settings[setting::CHECK_20..=setting::CHECK_25].fill(0);
+        let unchecked_answer = run.compare(&unchecked);
+        for shares in [1, -1, 1_000_000, -1_000_000_i64] {
+            let order = order.with_shares(shares);
+            let is_on_their_side = |(_, count): &RawLeg| count.signum() == shares.signum();
+            if !legs.iter().all(is_on_their_side) {
+                run.expect(&order, unchecked_answer, "the order without checks");
+            } else if legs.len() > 1 {
+                unchecked.settings[setting::CHECK_22] = order.settings[setting::CHECK_22];
+                let expected = run.compare(&unchecked);
+                run.expect(&order, expected, "the order with 22 alone");
+            } else {
+                run.compare(&order);
+            }
+        }
+        let expected = match unchecked_answer.number {
+            3..=8 => unchecked_answer,
+            _ => Answer::refusal(BAD_SHARES),
+        };
+        for shares in [1_000_001, -1_000_001, i64::MAX, i64::MIN] {
+            run.expect(&order.with_shares(shares), expected, "the rule");
+        }
+    }
+    run.finish(&[0, 3, 4, 5, 6, 7, 8, 9, 10, 22, 33], 9 * 3_600);
+}
+
+/// At a price of the same size that a simple order may have, if it is one.
+fn of_right_sign(order: &Arrival) -> Arrival {
+    let price = match order.legs()[..] {
+        [(_, count)] => order.price.saturating_abs().max(1) * count.signum(),
+        _ => order.price,
+    };
+    Arrival {
+        price,
+        ..order.clone()
+    }
 }
 
 /// A pair is the same where two legs of one of its orders are exchanged.

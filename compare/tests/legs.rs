@@ -1,6 +1,6 @@
 //! Lists of legs: number, class, shape and pairings of both implementations, on random lists of 0
-//! to 20 legs, and on every small list over a few series. Where there are few contracts, the
-//! second implementation's answer is also found contract by contract.
+//! to 20 legs, and on every small list over a few series, with shares and without. Where there are
+//! few contracts, the second implementation's answer is also found contract by contract.
 
 use compare::{
     arrival::{Answer, Arrival, RawLeg},
@@ -36,7 +36,7 @@ fn random_lists() {
     }
     run.report();
     println!("random legs: {by_contracts} also contract by contract; by length {lengths:?}");
-    let numbers = [0, 1, 3, 4, 5, 6, 7, 8, 22, 23, 24];
+    let numbers = [0, 1, 3, 4, 5, 6, 7, 8, 22, 23, 24, 33];
     run.require(&numbers, LEAST_OF_EACH);
     assert!(by_contracts >= RANDOM_LISTS / 4);
     assert!(lengths.iter().all(|&times| times >= RANDOM_LISTS / 100));
@@ -56,6 +56,9 @@ fn random_arrival(random: &mut Random, legs: &[RawLeg]) -> Arrival {
     arrival.settings[EUROPEAN_INDEX] = u64::from(random.index(3) == 0);
     if random.index(2) == 0 {
         arrival.settings[CHECK_20..=CHECK_26].fill(0);
+    }
+    if random.index(4) == 0 {
+        arrival.shares = *random.pick(&[-1_000_000, -1, 1, 1_000_000]);
     }
     if random.index(8) == 0 {
         damage(random, &mut arrival);
@@ -82,13 +85,14 @@ fn alphabet(counts: &[i64]) -> Vec<RawLeg> {
     symbols().into_iter().flat_map(with_counts).collect()
 }
 
-/// Puts a list of legs to both, European and not.
+/// Puts a list of legs to both: as it is, European, and with shares.
 fn compare(run: &mut Run, legs: &[RawLeg]) {
-    let mut arrival = Arrival::limit(legs, -1_000);
-    for european in [0, 1] {
-        arrival.settings[EUROPEAN_INDEX] = european;
-        let expected: Answer = order::check_by_contracts(&arrival);
-        run.expect(&arrival, expected, "contract by contract");
+    let arrival = Arrival::limit(legs, -1_000);
+    let mut european = arrival.clone();
+    european.settings[EUROPEAN_INDEX] = 1;
+    for arrival in [&arrival, &european, &arrival.with_shares(1)] {
+        let expected: Answer = order::check_by_contracts(arrival);
+        run.expect(arrival, expected, "contract by contract");
     }
 }
 
@@ -107,7 +111,7 @@ fn every_three_legs() {
             }
         }
     }
-    let comparisons = 2 * (1 + 60 + 60 * 60 + 60 * 60 * 60);
+    let comparisons = 3 * (1 + 60 + 60 * 60 + 60 * 60 * 60);
     run.finish(&[0, 3, 5, 6, 8, 22, 23], comparisons);
     assert_eq!(run.comparisons, comparisons);
 }
@@ -126,7 +130,7 @@ fn every_four_legs() {
             }
         }
     }
-    let comparisons = 2 * (48 * 49 * 50 * 51 / 24);
+    let comparisons = 3 * (48 * 49 * 50 * 51 / 24);
     run.finish(&[0, 6, 22, 23], comparisons);
     assert_eq!(run.comparisons, comparisons);
 }
@@ -157,7 +161,7 @@ fn every_six_series_of_one_type() {
             every_count(&mut run, [3, 0, 5, 1, 4, 2].map(|place| symbols[place]));
         }
     }
-    let comparisons = 5 * 2 * 2 * 5_u64.pow(6);
+    let comparisons = 5 * 2 * 3 * 5_u64.pow(6);
     run.finish(&[0, 3, 8, 22, 23], comparisons);
     assert_eq!(run.comparisons, comparisons);
 }

@@ -59,6 +59,7 @@ fn lines_read_back() {
     reads_back(&Arrival {
         price: i64::MIN,
         kind: u64::MAX,
+        shares: i64::MIN,
         ..Arrival::limit(&[], 0)
     });
     let mut random = Random::new(1);

@@ -15,7 +15,7 @@ use compare::{
     slices::{market, setting},
     tally::{self, Tallied, TalliedAnswer, Tally},
 };
-use std::collections::BTreeMap;
+use std::collections::{BTreeMap, BTreeSet};
 
 const LIMIT: u64 = 1_000_000;
 
@@ -367,8 +367,8 @@ fn one_of_each_number(random: &mut Random) -> Vec<(Tallied, Answer)> {
             shortest.insert(answer.number, (arrival, answer));
         }
     }
-    let numbers: Vec<u64> = shortest.keys().copied().collect();
-    assert_eq!(numbers, numbers::of(Of::Order));
+    let numbers: BTreeSet<u64> = shortest.keys().copied().collect();
+    assert_eq!(numbers, numbers::of(Of::Order).into_iter().collect());
     let tally = Tally::default();
     let tallied = |(arrival, answer)| (Tallied { arrival, tally }, answer);
     shortest.into_values().map(tallied).collect()

@@ -11,7 +11,7 @@ use crate::{
 /// Makes one thing wrong, or perhaps just unusual.
 pub fn damage(random: &mut Random, arrival: &mut Arrival) {
     let legs = arrival.counts.len() / 8;
-    match random.index(12) {
+    match random.index(13) {
         0 => damage_lengths(random, arrival),
         1 | 2 if !arrival.symbols.is_empty() => {
             let place = random.index(arrival.symbols.len());
@@ -39,7 +39,22 @@ pub fn damage(random: &mut Random, arrival: &mut Arrival) {
             let turned = arrival.price.wrapping_neg();
             arrival.price = *random.pick(&[TOO_LARGE, -TOO_LARGE, i64::MAX, i64::MIN, 0, turned]);
         }
-        8 | 9 => damage_settings(random, &mut arrival.settings),
+        8 => {
+            // Too many, some of which would be few or none if cut short.
+            const WRONG: [i64; 8] = [
+                1_000_001,
+                -1_000_001,
+                i64::MAX,
+                i64::MIN,
+                i64::MIN + 100,
+                1 << 32,
+                (1 << 32) + 100,
+                100 - (1 << 32),
+            ];
+            let (wrong, turned) = (*random.pick(&WRONG), arrival.shares.wrapping_neg());
+            arrival.shares = *random.pick(&[wrong, wrong, 100, -100, turned, 0]);
+        }
+        9 | 10 => damage_settings(random, &mut arrival.settings),
         _ => damage_market(random, &mut arrival.market),
     }
 }

@@ -21,7 +21,7 @@ use crate::{
     random::Random,
     series::Series,
 };
-use values::price;
+use values::{price, shares};
 
 /// Series with signed counts, before they become bytes.
 pub type Draft = Vec<(Series, i64)>;
@@ -69,12 +69,14 @@ fn any_draft(random: &mut Random) -> Draft {
 
 /// An order of some legs, its price at the limits that checks draw under settings and market.
 fn order(random: &mut Random, draft: &Draft, settings: &[u64], market: &[u64]) -> Arrival {
+    let shares = shares(random, draft);
     let mut arrival = Arrival {
-        price: price(random, draft, settings, market),
+        price: price(random, draft, shares, settings, market),
         kind: u64::from(random.index(4) == 0),
         stop: u64::from(random.index(8) == 0),
         manual: u64::from(random.index(8) == 0),
         opening: u64::from(random.index(4) == 0),
+        shares,
         settings: settings.to_vec(),
         market: market.to_vec(),
         ..Arrival::limit(&legs_of(draft), 0)

@@ -28,8 +28,8 @@ pub fn pair(random: &mut Random) -> Pair {
     Pair::of(&agency, &contra, flag(random, 2))
 }
 
-/// The order from the other side or from the same, perhaps in another sequence of its legs or at
-/// another price.
+/// The order from the other side or from the same, perhaps in another sequence of its legs, at
+/// another price or with other shares.
 fn of_the_same_legs(random: &mut Random, order: &Arrival) -> Arrival {
     let mut other = match random.index(4) {
         0 => order.clone(),
@@ -44,16 +44,20 @@ fn of_the_same_legs(random: &mut Random, order: &Arrival) -> Arrival {
         let price = other.price;
         other.price = *random.pick(&[price - 1, price + 1, price / 2, -price]);
     }
+    if random.index(8) == 0 {
+        other.shares = *random.pick(&[0, 100, -100, -other.shares]);
+    }
     other
 }
 
-/// What was bought is sold and what was sold is bought, at the opposite price.
+/// What was bought is sold and what was sold is bought, shares too, at the opposite price.
 pub fn reversed(order: &Arrival) -> Arrival {
     let mut legs = order.legs();
     legs.iter_mut()
         .for_each(|(_, count)| *count = count.wrapping_neg());
     Arrival {
         price: order.price.wrapping_neg(),
+        shares: order.shares.wrapping_neg(),
         ..order.with_legs(&legs)
     }
 }

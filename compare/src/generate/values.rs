@@ -1,4 +1,4 @@
-//! Settings, markets and prices, often at their limits and at those that checks draw.
+//! Settings, markets, shares and prices, often at their limits and at those that checks draw.
 
 use super::{side, Draft};
 use crate::{
@@ -93,24 +93,44 @@ fn near(random: &mut Random, level: u64) -> u64 {
     value.min(1_000_000_000)
 }
 
+/// Mostly none, otherwise few or any, or about as many as there may be; more often of the first
+/// leg's side than of the other.
+pub fn shares(random: &mut Random, draft: &Draft) -> i64 {
+    let size = match random.index(12) {
+        0 => *random.pick(&[999_999, 1_000_000, 1_000_001]),
+        1 => random.between(1, 1_000_000) as i64,
+        2 | 3 => *random.pick(&[1, 2, 100, 1_000]),
+        _ => return 0,
+    };
+    let side = draft.first().map_or(1, |(_, count)| count.signum());
+    size * *random.pick(&[side, side, -side])
+}
+
 /// A price at or next to a limit that some check draws for this order, or any.
-pub fn price(random: &mut Random, draft: &Draft, settings: &[u64], market: &[u64]) -> i64 {
+pub fn price(
+    random: &mut Random,
+    draft: &Draft,
+    shares: i64,
+    settings: &[u64],
+    market: &[u64],
+) -> i64 {
     let size = match random.index(12) {
         0 => random.between(0, 30_000) as i128,
         1 => *random.pick(&[0, 1, 2, 1_000_000_000_000]),
-        _ => *random.pick(&limits(draft, settings, market)),
+        _ => *random.pick(&limits(draft, shares, settings, market)),
     };
     let size = size + *random.pick(&[-1, 0, 0, 1]);
     let size = size.clamp(-1_000_000_000_000, 1_000_000_000_000) as i64;
     match draft[..] {
         // Simple orders pay to buy: mostly so, that they come to the checks.
-        [(_, count)] if random.index(32) != 0 => size.abs().max(1) * count.signum(),
+        [(_, count)] if shares == 0 && random.index(32) != 0 => size.abs().max(1) * count.signum(),
         _ => size * side(random),
     }
 }
 
-/// The limits that checks draw for an order, whichever of them apply.
-fn limits(draft: &Draft, settings: &[u64], market: &[u64]) -> Vec<i128> {
+/// The limits that checks draw for an order, whichever of them apply: with shares also those that
+/// would be drawn without.
+fn limits(draft: &Draft, shares: i64, settings: &[u64], market: &[u64]) -> Vec<i128> {
     let mut limits = vec![0];
     if let [(series, _)] = draft[..] {
         limits.push(series.strike.into());
@@ -119,12 +139,14 @@ fn limits(draft: &Draft, settings: &[u64], market: &[u64]) -> Vec<i128> {
             let distance = checks::distance(settings, reference);
             limits.extend([reference + distance, reference - distance, reference]);
         }
-        return limits;
+        if shares == 0 {
+            return limits;
+        }
     }
     let units = draft.iter().map(|(_, count)| i128::from(count.abs()));
     let smallest = units.clone().min().unwrap_or(1).max(1);
     let sum: i128 = units.map(|size| size / smallest).sum(); // mostly the unit counts
-    limits.push(sum * i128::from(settings[NET_INCREMENT]));
+    limits.extend([sum * i128::from(settings[NET_INCREMENT]); 4]);
     let mut strikes: Vec<i128> = draft.iter().map(|(s, _)| s.strike.into()).collect();
     strikes.sort_unstable();
     strikes.dedup();

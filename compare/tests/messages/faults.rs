@@ -6,7 +6,6 @@ use compare::{
     generate::messages::{body, field, with_body},
     limits::{every_length, faults_together, Fault},
     message::Message,
-    numbers::BAD_FRAME,
     random::Random,
     run::Run,
     series::{call, put},
@@ -73,7 +72,7 @@ const FAULTS: [Fault<Draft>; 11] = [
 ];
 
 /// Any faults together, and settings and market of any length: those of a message come first, then
-/// the lowest number of the order check.
+/// the first number of the order check.
 #[test]
 fn first_number_first() {
     let mut run = Run::new("faults of messages");
@@ -86,12 +85,11 @@ fn first_number_first() {
     };
     for (draft, number) in faults_together(&draft, &FAULTS) {
         let message = draft.message(&mut run.random);
-        for (settings, market, of_order) in every_length(number) {
+        for (settings, market, number) in every_length(number) {
             let mut message = message.clone();
             message.settings.resize(settings, 1);
             message.market.resize(market, 1);
-            let of_message = (number >= BAD_FRAME).then_some(number);
-            hold(&mut run, &message, of_message.unwrap_or(of_order));
+            hold(&mut run, &message, number);
         }
     }
     run.finish(&[0, 3, 4, 5, 6, 7, 8, 9, 10, 30, 31, 32], 80 * 2_048);

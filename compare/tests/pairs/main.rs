@@ -158,7 +158,7 @@ fn orders_of_cases() {
             hold_both_ways(&mut run, [&order.case, &beside], numbers);
         }
     }
-    run.finish(&[], 4 * 4 * 600);
-    let numbers = [0, 3, 4, 5, 6, 7, 8, 9, 10, 20, 21, 22, 23, 24, 25];
+    run.finish(&[], 4 * 4 * 800);
+    let numbers = [0, 3, 4, 5, 6, 7, 8, 9, 10, 20, 21, 22, 23, 24, 25, 33];
     run.require_of_pairs(&numbers, 1);
 }

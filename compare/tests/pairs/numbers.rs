@@ -4,13 +4,13 @@ use super::{calls, hold, MARCH};
 use compare::{
     arrival::{Arrival, RawLeg},
     limits::every_length,
-    numbers::{self, Of, ACCEPTED, BAD_MARKET, BAD_SETTING},
+    numbers::{self, kind, Kind, Of, BAD_MARKET, BAD_SETTING},
     run::Run,
     series::{call, put},
     slices::{market::*, setting::*},
 };
 
-/// One order for each number that an order can get by itself, and two that get 0, under one market.
+/// Orders for each number that an order can get by itself, 0 among them, under one market.
 fn orders() -> Vec<(Arrival, u64)> {
     let mut orders = rejected();
     orders.extend(refused());
@@ -19,6 +19,7 @@ fn orders() -> Vec<(Arrival, u64)> {
         one_leg(call(MARCH, 20_000).leg(1), 1_250),
         one_leg(call(MARCH, 20_000).leg(-1), -1_050),
     ]);
+    orders.extend(with_shares());
     for (order, _) in &mut orders {
         order.market[UNDERLYING] = 10_000;
         order.market[NBB..=NBO].copy_from_slice(&[1_100, 1_200]);
@@ -35,6 +36,19 @@ fn rejected() -> Vec<(Arrival, u64)> {
         (Arrival::limit(&vertical, -1), 23),
         (Arrival::limit(&vertical, 5_151), 24),
         (Arrival::limit(&[call(MARCH, 20_000).leg(1)], 1_251), 25),
+    ]
+}
+
+/// One leg that 8, 20, 21 and 25 would see without its shares.
+fn with_shares() -> Vec<(Arrival, u64)> {
+    let one_leg = |leg, price, shares| Arrival::limit(&[leg], price).with_shares(shares);
+    let (bought, sold) = (call(MARCH, 20_000).leg(1), call(MARCH, 20_000).leg(-1));
+    vec![
+        (one_leg(bought, 10_000, 100), 0),
+        (one_leg(sold, 1_000, 100), 0),
+        (one_leg(sold, 1_000, -100), 22),
+        (one_leg(put(MARCH, 18_000).leg(1), 18_000, 1_000_001), 33),
+        (one_leg(sold, 1_000, i64::MIN), 33),
     ]
 }
 
@@ -73,28 +87,29 @@ fn every_two_numbers() {
             }
         }
     }
-    run.finish(&[], 4 * 16 * 16 * 80);
+    run.finish(&[], 4 * 21 * 21 * 80);
     run.require_of_pairs(&numbers::of(Of::Order), 16);
 }
 
-/// The same where a setting or the market's phase is outside its limits.
+/// The same where a setting or the market's phase is outside its limits: what an order is refused
+/// for by itself comes before that.
 #[test]
 fn every_two_numbers_under_wrong_terms() {
     let mut run = Run::new("wrong terms");
-    let lowest = |number: u64, of_terms| match number {
-        ACCEPTED => of_terms,
-        _ => number.min(of_terms),
+    let first = |number: u64, of_terms| match kind(number) {
+        Kind::Refused => number,
+        _ => of_terms,
     };
     for (agency, number) in orders() {
         for (contra, contra_number) in orders() {
             let mut agency = agency.clone();
             agency.market[PHASE] = 3;
-            let numbers = [number, contra_number].map(|number| lowest(number, BAD_MARKET));
+            let numbers = [number, contra_number].map(|number| first(number, BAD_MARKET));
             hold(&mut run, [&agency, &contra], numbers);
             agency.settings[SET_TICKS] = 1_001;
-            let numbers = [number, contra_number].map(|number| lowest(number, BAD_SETTING));
+            let numbers = [number, contra_number].map(|number| first(number, BAD_SETTING));
             hold(&mut run, [&agency, &contra], numbers);
         }
     }
-    run.finish(&[1, 3, 4, 5, 6, 7, 8, 9, 10], 2 * 4 * 16 * 16);
+    run.finish(&[1, 3, 4, 5, 6, 7, 8, 9, 10, 33], 2 * 4 * 21 * 21);
 }

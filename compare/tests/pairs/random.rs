@@ -11,7 +11,7 @@ use compare::{
     run::Run,
     unit,
 };
-use std::{collections::BTreeMap, fmt::Debug};
+use std::collections::BTreeMap;
 
 const COMPARISONS: u64 = 400_000;
 const LEAST_OF_EACH: u64 = 1_000;
@@ -48,7 +48,7 @@ fn both_give_the_same_answers() {
     }
     run.report();
     run.require_of_pairs(&numbers::of(Of::Order), LEAST_OF_EACH);
-    met.require();
+    met.require(&run);
 }
 
 /// Puts a pair to both, and holds it to the numbers that its orders get alone.
@@ -64,9 +64,11 @@ fn way(pair: &Pair, answer: &PairAnswer) -> Way {
     (pair.continue_unpaired != 0, agency, contra)
 }
 
-/// What the contra order is to the agency order.
-const RELATIONS: [&str; 7] = [
+/// What the contra order is to the agency order. The reverse has as many shares on the other side.
+const RELATIONS: [&str; 9] = [
     "the reverse at the opposite price",
+    "the reverse with shares at the opposite price",
+    "the reverse with other shares at the opposite price",
     "the reverse in another sequence at the opposite price",
     "the reverse at another price",
     "the same legs",
@@ -86,14 +88,17 @@ fn relation(pair: &Pair) -> &'static str {
     });
     let is_other = |leg: &RawLeg| same.iter().all(|(symbol, _)| *symbol != leg.0);
     let are_other = !same.is_empty() && !legs.is_empty() && legs.iter().all(is_other);
+    let is_opposite = legs == turned && contra.price == reverse.price;
     RELATIONS[match () {
-        () if legs == turned && contra.price == reverse.price => 0,
-        () if sorted == sorted_turned && contra.price == reverse.price => 1,
-        () if sorted == sorted_turned => 2,
-        () if legs == same => 3,
-        () if sorted == sorted_same => 4,
-        () if are_other && legs.len() != same.len() => 5,
-        () => 6,
+        () if is_opposite && [contra.shares, reverse.shares] == [0, 0] => 0,
+        () if is_opposite && contra.shares == reverse.shares => 1,
+        () if is_opposite => 2,
+        () if sorted == sorted_turned && contra.price == reverse.price => 3,
+        () if sorted == sorted_turned => 4,
+        () if legs == same => 5,
+        () if sorted == sorted_same => 6,
+        () if are_other && legs.len() != same.len() => 7,
+        () => 8,
     }]
 }
 
@@ -114,18 +119,18 @@ fn with_legs_exchanged(random: &mut Random, pair: &Pair, side: usize) -> Option<
 }
 
 impl Met {
-    fn require(&self) {
+    fn require(&self, run: &Run) {
         let of_side = |side| ways().into_iter().map(move |way| (side, way));
         let exchanged: Vec<(usize, Way)> = (0..2).flat_map(of_side).collect();
         let least = LEAST_OF_EACH;
-        require("ways", &self.ways, &ways(), least);
-        require(
+        run.require_just("ways", &self.ways, &ways(), least);
+        run.require_just(
             "with legs exchanged",
             &self.exchanged,
             &exchanged,
             least / 10,
         );
-        require("relations", &self.relations, &RELATIONS, least);
+        run.require_just("relations", &self.relations, &RELATIONS, least);
     }
 }
 
@@ -133,15 +138,4 @@ fn ways() -> Vec<Way> {
     const KINDS: [Kind; 3] = [Kind::Accepted, Kind::Refused, Kind::Rejected];
     let of_mark = |marked| every(&KINDS).map(move |[agency, contra]| (marked, agency, contra));
     [false, true].into_iter().flat_map(of_mark).collect()
-}
-
-/// Fails unless just these were met, each at least so often.
-fn require<K: Ord + Debug>(what: &str, met: &BTreeMap<K, u64>, all: &[K], least: u64) {
-    for one in all {
-        let times = met.get(one).copied().unwrap_or(0);
-        assert!(times >= least, "{one:?}: {times}");
-    }
-    assert_eq!(met.len(), all.len(), "{met:?}");
-    let (number, least) = (met.len(), met.values().min().expect("one at least"));
-    println!("pairs: {number} {what}, each at least {least} times");
 }

@@ -33,6 +33,7 @@ pub struct Order {
     stop: u64,
     manual: u64,
     opening: u64,
+    shares: i64,
 }
 
 /// struct opc_fix.
@@ -88,6 +89,7 @@ unsafe fn arrival(order: &Order, terms: &Terms) -> Arrival {
         stop: order.stop,
         manual: order.manual,
         opening: order.opening,
+        shares: order.shares,
         settings: lent(terms.settings, terms.settings_len),
         market: lent(terms.market, terms.market_len),
     }

@@ -109,6 +109,7 @@ fn one_order(seed: &mut Vec<u8>, order: &Arrival) {
     seed.extend([&order.symbols[..], &order.counts].concat());
     seed.extend(order.price.to_le_bytes());
     numbers(seed, &[order.kind, order.stop, order.manual, order.opening]);
+    seed.extend(order.shares.to_le_bytes());
 }
 
 fn order(arrival: &Arrival) -> Vec<u8> {
@@ -125,7 +126,8 @@ fn tallied(arrival: &Arrival, tally: [u64; 4]) -> Vec<u8> {
     seed
 }
 
-/// The body of the order's message; the harness puts the frame around it. Here a bar is byte 1.
+/// The body of the order's message, which has no shares; the harness puts the frame around it.
+/// Here a bar is byte 1.
 fn body(arrival: &Arrival) -> Vec<u8> {
     let kind = if arrival.kind == 0 { 2 } else { 1 };
     let sign = if arrival.price < 0 { "-" } else { "" };

@@ -53,7 +53,7 @@ pub fn order(random: &mut Random) -> Arrival {
     })
 }
 
-/// The order with its whole legs alone, and sizes that the digits of a message can write.
+/// The order with its whole legs alone, no shares, and sizes that a message's digits can write.
 pub fn writable(arrival: &Arrival) -> Arrival {
     let mut legs = arrival.legs();
     legs.retain(|(symbol, _)| !symbol.contains(&END));
@@ -62,6 +62,7 @@ pub fn writable(arrival: &Arrival) -> Arrival {
     }
     Arrival {
         price: arrival.price.clamp(-LARGEST_PRICE, LARGEST_PRICE),
+        shares: 0,
         ..arrival.with_legs(&legs)
     }
 }
