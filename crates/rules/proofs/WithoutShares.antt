@@ -14,8 +14,9 @@ use Rattle.rules.specs.declared.Settings.{Settings}
 use Rattle.rules.specs.declared.Market.{Market}
 use Rattle.rules.specs.declared.OrderAnswer.{OrderAnswer}
 use Rattle.rules.specs.Lists.{every}
-use Rattle.rules.specs.Order.{rawLegs, recordLegs, sharesOf, legsOf, units, hasShares, isSimple}
-use Rattle.rules.specs.Pairing.{byStrike}
+use Rattle.rules.specs.Order.{isYes, rawLegs, recordLegs, sharesOf, legsOf, units, hasShares, isSimple}
+use Rattle.rules.specs.Pairing.{byStrike, bothWalks}
+use Rattle.rules.specs.Class.{shapeOf, classOf}
 use Rattle.rules.specs.Checks.{simpleBuy, sharesOn, sameSideBelow, buyBuy, debitCredit, maximumValue}
 use Rattle.rules.specs.Market.{tickDistance}
 use Rattle.rules.specs.Numbers.{firstOf, isBadPrice, isBadShares, refusal, rejection, judged, refused, outcome, checkLegs, checkOrder, areWhole, checkSlices, Inputs, answerTo}
@@ -77,7 +78,11 @@ module _ (t : Terms) (none : t .shares .size ≡ 0) where
 
   judged-moved : (st : Settings) (m : Market) (ls : List Leg) → judged st m t ls ≡ optionsJudged st m t ls
   unfolding judged
-  judged-moved st m ls = rw (rejection-moved st m (units ls) _)
+  judged-moved st m ls =
+      let us = units ls in
+      let w = bothWalks (isYes (st .european)) ls in
+      let class = classOf us w in
+      ap (λ (n : ℕ). record { number = n; class = class; shape = shapeOf us; pairings = length (w .pairs) }) (rejection-moved st m us class)
 
   pub legs-moved : (st : Settings) (m : Market) (n : ℕ) (rs : List RawLeg) → checkLegs st m t n rs ≡ checkOptions st m t n rs
   unfolding checkLegs checkOptions
