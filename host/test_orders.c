@@ -1,7 +1,7 @@
 /*
  * Holds the order check to the answers of the files in cases/, to what holds of every answer, and
- * for orders with shares to the number by a rule of this test's own. Exit status 1 and a message on
- * the first failure, one line with the number of checks otherwise.
+ * to rules of this test's own: for calendars to the class, for orders with shares to the number.
+ * Exit status 1 and a message on the first failure, one line with the number of checks otherwise.
  */
 #define _DEFAULT_SOURCE /* for lent_bytes.h */
 #include "answers.h"
@@ -180,6 +180,58 @@ static void test_random_valid(void) {
     expect(seen == all, "a number that no valid order was given, or one that none can get");
 }
 
+/* ---- calendars ---- */
+
+/* Calls or puts of one strike, at expiries that rise. */
+static struct made_order any_calendar(void) {
+    struct made_order m = no_legs();
+    size_t legs = between(2, OPC_MOST_LEGS);
+    uint64_t style = below(4), year = between(0, 10), strike = between(1, 99999999);
+    char option_type = one_in(2) ? 'C' : 'P';
+    while (legs_of(&m) < legs) {
+        uint64_t yymmdd = year * 10000 + between(1, 12) * 100 + between(1, 28);
+        add_leg(&m, yymmdd, option_type, strike, random_count(style));
+        year += between(1, 5);
+    }
+    m.price = one_in(2) ? MOST_PRICE : -MOST_PRICE;
+    return m;
+}
+
+/*
+ * The farthest expiry is the dearest, and by S-5 the walk begins there: so a debit is an order of
+ * which no more is sold than bought, from the farthest expiry down to any nearer one; a credit
+ * mirrors this.
+ */
+static uint64_t class_of_calendar(const struct made_order *m) {
+    bool is_debit = true, is_credit = true;
+    int64_t sum = 0;
+    for (size_t leg = legs_of(m); leg > 0; leg--) {
+        sum += count_of(m, leg - 1);
+        is_debit = is_debit && sum >= 0;
+        is_credit = is_credit && sum <= 0;
+    }
+    return is_debit ? OPC_CLASS_DEBIT : is_credit ? OPC_CLASS_CREDIT : OPC_CLASS_UNDETERMINED;
+}
+
+/* The class, and the number that 23 gives by it; 22, which comes before it, is switched off. */
+static void test_calendars(void) {
+    uint64_t seen = 0;
+    for (size_t i = 0; i < RANDOM_CASES; i++) {
+        struct made_order m = any_calendar();
+        uint64_t class_ = class_of_calendar(&m);
+        uint64_t turned = m.price > 0 ? OPC_CLASS_CREDIT : OPC_CLASS_DEBIT;
+        m.settings.check_22 = 0;
+        shuffle_legs(&m);
+        struct opc_answer a = answer(&m);
+        expect(a.class_ == class_, "another class than a calendar's sums have");
+        expect(a.number == (class_ == turned ? OPC_CHECK_DEBIT_CREDIT : OPC_ACCEPTED),
+               "another number than 23 by a calendar's class");
+        seen |= only(class_);
+    }
+    expect(seen == (only(OPC_CLASS_UNDETERMINED) | only(OPC_CLASS_DEBIT) | only(OPC_CLASS_CREDIT)),
+           "a class that no calendar has");
+}
+
 /* ---- with shares ---- */
 
 static uint64_t common_divisor(uint64_t a, uint64_t b) {
@@ -311,6 +363,7 @@ int main(void) {
     test_null();
     test_random_damaged();
     test_random_valid();
+    test_calendars();
     test_random_shares();
     test_share_limits();
     return all_hold();

@@ -79,31 +79,51 @@ mod tests {
     /// and zero for all others: so all sums from the dearest series on must be zero or more.
     #[test]
     fn sums_from_the_dearest_series_give_the_class() {
-        let mut random = Random::new(2);
+        let dearer = |leg: &Leg, last: &Leg| {
+            let same = (leg.option_type, leg.expiry) == (last.option_type, last.expiry);
+            same && match last.option_type {
+                OptionType::Call => leg.strike <= last.strike,
+                OptionType::Put => leg.strike >= last.strike,
+            }
+        };
+        hold_sums(Random::new(2), true, |_| true, dearer);
+    }
+
+    /// The same of legs of one strike with walks over expiries: the farthest is the dearest, and
+    /// by S-5 the walk begins there.
+    #[test]
+    fn sums_from_the_farthest_expiry_give_the_class() {
+        let dearer = |leg: &Leg, last: &Leg| {
+            leg.option_type == last.option_type && leg.expiry >= last.expiry
+        };
+        hold_sums(Random::new(3), false, |leg| leg.strike == 1, dearer);
+    }
+
+    /// Holds the class of some of the legs to the sums of each leg with all that are dearer.
+    fn hold_sums(
+        mut random: Random,
+        european: bool,
+        is_kept: impl Fn(&Leg) -> bool,
+        is_dearer: impl Fn(&Leg, &Leg) -> bool,
+    ) {
         let mut seen = [0; 3];
         for _ in 0..100_000 {
-            let legs = some_legs(&mut random);
-            let sums: Vec<i128> = legs.iter().map(|last| sum_down_to(&legs, last)).collect();
+            let mut legs = some_legs(&mut random);
+            legs.retain(|leg| is_kept(leg));
+            let sum_down_to = |last: &Leg| {
+                let counted = legs.iter().filter(|leg| is_dearer(leg, last));
+                counted.map(|leg| leg.count).sum()
+            };
+            let sums: Vec<i128> = legs.iter().map(sum_down_to).collect();
             let expected = match () {
                 () if sums.iter().all(|&sum| sum >= 0) => DEBIT,
                 () if sums.iter().all(|&sum| sum <= 0) => CREDIT,
                 () => UNDETERMINED,
             };
-            let class = of(&legs, &Shape::Other, &by_levels(&legs, true));
+            let class = of(&legs, &Shape::Other, &by_levels(&legs, european));
             assert_eq!(class, expected, "{legs:?}");
             seen[class as usize] += 1;
         }
         assert!(seen.iter().all(|&times| times > 4_000), "{seen:?}");
-    }
-
-    /// The counts of a leg and of every dearer one of its type and expiry.
-    fn sum_down_to(legs: &[Leg], last: &Leg) -> i128 {
-        let same = |leg: &&Leg| (leg.option_type, leg.expiry) == (last.option_type, last.expiry);
-        let counted = legs.iter().filter(same);
-        let counted = counted.filter(|leg| match last.option_type {
-            OptionType::Call => leg.strike <= last.strike,
-            OptionType::Put => leg.strike >= last.strike,
-        });
-        counted.map(|leg| leg.count).sum()
     }
 }

@@ -1,7 +1,8 @@
 //! The pairing of legs, by two methods that share nothing but the grouping.
 //!
-//! `by_contracts` is document 01 to the letter: single contracts are matched one at a time, from
-//! explicit lists of the open ones, and a run of matches of the same two legs is one pairing.
+//! `by_contracts` is document 01 to the letter, with S-5's direction of the second walk: single
+//! contracts are matched one at a time, from explicit lists of the open ones, and a run of matches
+//! of the same two legs is one pairing.
 //!
 //! `by_levels` is the quick one, and keeps no open contracts at all. Think of a walk as a position
 //! on a line, bought contracts a step up, sold ones a step down. A contract matches the one that
@@ -11,7 +12,7 @@
 //! crossed by the same legs and count together.
 
 use crate::legs::{Leg, OptionType};
-use std::collections::BTreeMap;
+use std::{cmp::Reverse, collections::BTreeMap};
 
 /// What the walks made of the legs, named by their places.
 #[derive(Clone, Debug, Default, PartialEq, Eq)]
@@ -48,7 +49,7 @@ fn both_walks(legs: &[Leg], european: bool, walk: Walk) -> Paired {
     }
     if !european {
         for mut group in groups(legs, |leg| (leg.option_type, leg.strike)) {
-            group.sort_by_key(|&place| legs[place].expiry);
+            group.sort_by_key(|&place| Reverse(legs[place].expiry));
             walk(&group, &mut paired);
         }
     }

@@ -74,7 +74,7 @@ sorted-by false ls = refl
 
 key-decides : (second : Bool) (x y : Leg) → InRange (x .series) → InRange (y .series) → (keyOf second (x .series) ≡ keyOf second (y .series) → ⊥)
     → lex (keyed second x) (keyed second y) ≡ ltb (keyOf second (x .series)) (keyOf second (y .series))
-key-decides true x y r q d = packed-decides _ _ _ _ _ _ (wholeLeg x) (wholeLeg y) (r .strike) (omega arith) (q .strike) (omega arith) d
+key-decides true x y r q d = packed-decides _ _ _ _ _ _ (wholeLeg x) (wholeLeg y) (r .strike) (r .expiry) (q .strike) (q .expiry) d
 key-decides false x y r q d = packed-decides _ _ _ _ _ _ (wholeLeg x) (wholeLeg y) (r .expiry) (low (x .series) r (x .series .call)) (q .expiry) (low (y .series) q (y .series .call)) d
   where
     low : (s : Series) → InRange s → (c : Bool) → cond c (99999999 - s .strike .0) (s .strike .0) ≤ 99999999

@@ -16,7 +16,7 @@ use Rattle.keys.proofs.Keys.{key-call, small-digit}
 
 -- the key says the series
 decode : (second : Bool) (k : ℕ) (s : Series) (c : Bool) → s .call ≡ c → eqb (k / 10000000000000000) 1 ≡ c
-    → cond second (99999999 - k % 100000000) (k / 100000000 % 100000000) ≡ s .expiry
+    → cond second (k % 100000000) (k / 100000000 % 100000000) ≡ s .expiry
     → cond second (k / 100000000 % 100000000) (cond c (99999999 - k % 100000000) (k % 100000000)) ≡ s .strike .0
     → seriesAt second k ≡ s
 unfolding seriesAt

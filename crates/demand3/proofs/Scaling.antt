@@ -132,7 +132,7 @@ module _ (k : ℕ) (above : 0 < k) where
 
   byExpiry-scaled : (ls : List Leg) → byExpiry (map (scaled k) ls) ≡ map (scaled k) (byExpiry ls)
   unfolding byExpiry
-  byExpiry-scaled ls = sort-scaled (λ s. digit (s .call)) (λ s. s .strike .0) (λ s. 99999999 - s .expiry) ls
+  byExpiry-scaled ls = sort-scaled (λ s. digit (s .call)) (λ s. s .strike .0) (λ s. s .expiry) ls
 
   -- both walks of scaled legs make the scaled pairs and leave the scaled legs
   pub pairing-scaled : (european : Bool) (ls : List Leg) → bothWalks european (map (scaled k) ls) ≡ scaledWalk k (bothWalks european ls)

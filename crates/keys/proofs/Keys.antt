@@ -15,10 +15,10 @@ small-digit false = omega arith
 
 -- a key from its type
 key-from : Bool → ℕ → ℕ → Bool → ℕ
-key-from second expiry strike call = packed (digit call) (cond second strike expiry) (cond second (99999999 - expiry) (cond call (99999999 - strike) strike))
+key-from second expiry strike call = packed (digit call) (cond second strike expiry) (cond second expiry (cond call (99999999 - strike) strike))
 
 pub key-call : (second : Bool) (s : Series) (c : Bool) → s .call ≡ c
-    → keyOf second s ≡ packed (digit c) (cond second (s .strike .0) (s .expiry)) (cond second (99999999 - s .expiry) (cond c (99999999 - s .strike .0) (s .strike .0)))
+    → keyOf second s ≡ packed (digit c) (cond second (s .strike .0) (s .expiry)) (cond second (s .expiry) (cond c (99999999 - s .strike .0) (s .strike .0)))
 unfolding key-from
 key-call second s c e = ap (key-from second (s .expiry) (s .strike .0)) e
 

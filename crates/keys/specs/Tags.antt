@@ -23,7 +23,7 @@ keyOf second s =
     packed
     (digit (s .call))
     (cond second (s .strike .0) (s .expiry))
-    (cond second (99999999 - s .expiry) (cond (s .call) (99999999 - s .strike .0) (s .strike .0)))
+    (cond second (s .expiry) (cond (s .call) (99999999 - s .strike .0) (s .strike .0)))
 
 -- the series that a key says
 unfoldable pub seriesAt : Bool → ℕ → Series
@@ -33,7 +33,7 @@ seriesAt second k =
     let low = k % 100000000 in
     record {
       call = call;
-      expiry = cond second (99999999 - low) middle;
+      expiry = cond second low middle;
       strike = record { 0 = cond second middle (cond call (99999999 - low) low) };
     }
 

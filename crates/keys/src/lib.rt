@@ -57,9 +57,9 @@ pub fn second_tag(tag: u64) -> u64
     let expiry = key / 100000000 % 100000000;
     let low = key % 100000000;
     if kind == 1 {
-        return ((100000000 + (99999999 - low)) * 100000000 + (99999999 - expiry)) * 2 + side;
+        return ((100000000 + (99999999 - low)) * 100000000 + expiry) * 2 + side;
     }
-    (low * 100000000 + (99999999 - expiry)) * 2 + side
+    (low * 100000000 + expiry) * 2 + side
 }
 
 // The leg of a tag of the first walk. No check asks for its root.

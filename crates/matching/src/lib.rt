@@ -26,15 +26,14 @@ fn after_match(s: Step, debit: bool, figure: i64) -> Step
 }
 
 // The leg at i is matched with the one at `at`, m contracts of each. No match is made but where the figure shows the
-// other side: the code has no use for that, the contract asks for it. Keys rise, so the leg's own side tells a debit
-// from a credit.
+// other side: the code has no use for that, the contract asks for it. Both walks go from the dearer series to the
+// cheaper, so the leg at i is the cheaper one, and the pair is a debit where it is sold.
 pub fn meet(
     tags: &[u64; 16],
     left: &mut [u64; 16],
     i: usize,
     at: usize,
     n: usize,
-    second: bool,
     m: u64,
     s: Step,
 ) -> Step
@@ -42,14 +41,14 @@ pub fn meet(
     requires { ⌜
         (1 ≤ m)
         × (matchedAt (getD (now tags) i 0) m (getD (now tags) at 0) (getD (now left) at 0) ≡ m)
-        × Counts (now tags) (now left) n second i (i + 1) (s .figure)
+        × Counts (now tags) (now left) n i (i + 1) (s .figure)
         × (showsOther (s .figure) (sign (isBought (getD (now tags) i 0))) ≡ true)
         ⌝ }
-    ensures { λ r. ⌜ Meets (now (tags .entry)) (now (left .entry)) (now (left .exit)) i at n second m s r ⌝ }
+    ensures { λ r. ⌜ Meets (now (tags .entry)) (now (left .entry)) (now (left .exit)) i at n m s r ⌝ }
 {
     let tx = tags[i];
     let y = left[at];
     left[at] = y - m;
     let f = adjusted(s.figure, sign_of(tx), m);
-    after_match(s, is_bought(tx) == second, f)
+    after_match(s, !is_bought(tx), f)
 }

@@ -228,7 +228,7 @@ first-figure ls later xs x e =
 second-figure : FigureOf oneStrike byExpiry
 unfolding byExpiry
 second-figure ls later xs x e =
-    let expiries : Leg → List ℕ = λ l. (99999999 - l .series .expiry) ∷ wholeLeg l in
+    let expiries : Leg → List ℕ = λ l. l .series .expiry ∷ wholeLeg l in
     every-step (λ s. s .strike .0) expiries (byExpiry ls) later xs x (sort-rises (λ l. expiryKey (l .series) ++ wholeLeg l) ls) e
 
 pub running-figure : RunningFigure

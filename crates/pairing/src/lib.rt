@@ -53,7 +53,7 @@ fn second_walk(tags: &[u64; 16], left: &[u64; 16], n: usize) -> PairTally
     sort(&mut places, n);
     let mut rest = [0u64; 16];
     arrange(&mut places, left, n, &mut rest);
-    let pairs = walk(&places, &mut rest, n, true);
+    let pairs = walk(&places, &mut rest, n);
     loners(pairs, &places, &rest, n)
 }
 
@@ -62,7 +62,7 @@ fn tally(tags: &[u64; 16], left: &mut [u64; 16], n: usize, european: bool) -> Pa
     requires { ⌜ InSequence n (now tags) (now left) ⌝ }
     ensures { λ r. ⌜ ((root : ℕ) → BothWalks european (legsIn root false n (now (tags .entry)) (now (left .entry))) (r .pairs) (tallyClass r)) ⌝ }
 {
-    let pairs = walk(tags, left, n, false);
+    let pairs = walk(tags, left, n);
     let none = PairTally {
         pairs: 0,
         debit: false,

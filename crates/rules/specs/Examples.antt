@@ -122,9 +122,12 @@ cases =
     -- T8, and European index
     ∷ case (minus 1000) (lent (pos 1) 67 3 19 20 ∷ lent (minus 1) 67 6 18 20 ∷ []) (answers 0 2 0 1)
     ∷ record { european = 1; price = minus 1000; legs = lent (pos 1) 67 3 19 20 ∷ lent (minus 1) 67 6 18 20 ∷ []; expected = answers 0 0 0 0 }
+    -- T10, by S-5 a debit: September, which is walked first, meets June, and March is left over
+    ∷ case (pos 1000) (lent (pos 1) 67 3 19 20 ∷ lent (minus 1) 67 6 18 20 ∷ lent (pos 1) 67 9 17 20 ∷ []) (answers 0 1 0 1)
+    ∷ case (minus 1000) (lent (pos 1) 67 3 19 20 ∷ lent (minus 1) 67 6 18 20 ∷ lent (pos 1) 67 9 17 20 ∷ []) (answers 23 1 0 1)
     ∷ []
 
--- What T1 to T8 do not tell apart: where each walk begins, and which open contracts come first.
+-- What T1 to T8 and T10 do not tell apart: where each walk begins for calls and for puts, and which open contracts come first.
 abbrev pub directions : List Case
 directions =
     -- calls from the lowest strike up: the buy at 30 meets the sell at 20
@@ -133,8 +136,11 @@ directions =
     ∷ case (minus 1000) (puts (pos 1) 30 ∷ puts (minus 1) 20 ∷ puts (minus 1) 40 ∷ []) (answers 0 2 0 1)
     -- the latest-walked strike first: the sells at 30 meet the buy at 20, then one at 10
     ∷ case (pos 1000) (calls (pos 2) 10 ∷ calls (pos 1) 20 ∷ calls (minus 2) 30 ∷ []) (answers 0 1 0 2)
-    -- T10: from the nearest expiry to the farthest
-    ∷ case (pos 0) (lent (pos 1) 67 3 19 20 ∷ lent (minus 1) 67 6 18 20 ∷ lent (pos 1) 67 9 17 20 ∷ []) (answers 0 0 0 1)
+    -- calls and puts alike from the farthest expiry to the nearest: the sale in June meets the buy in September, and T10's opposite is a credit
+    ∷ case (pos 1000) (lent (pos 1) 80 3 19 20 ∷ lent (minus 1) 80 6 18 20 ∷ lent (pos 1) 80 9 17 20 ∷ []) (answers 0 1 0 1)
+    ∷ case (minus 1000) (lent (minus 1) 67 3 19 20 ∷ lent (pos 1) 67 6 18 20 ∷ lent (minus 1) 67 9 17 20 ∷ []) (answers 0 2 0 1)
+    -- the latest-walked expiry first: the sales in March meet the buy in June, then one in September
+    ∷ case (pos 1000) (lent (minus 2) 67 3 19 20 ∷ lent (pos 1) 67 6 18 20 ∷ lent (pos 2) 67 9 17 20 ∷ []) (answers 0 1 0 2)
     ∷ []
 
 -- the order check's answer to a case
@@ -149,7 +155,7 @@ abbrev pub expecteds : List Case → List OrderAnswer
 expecteds [] = []
 expecteds (c ∷ cs) = c .expected ∷ expecteds cs
 
--- T1 to T8, jointly
+-- T1 to T8 and T10, jointly
 abbrev pub Examples : Type 0
 Examples = givens cases ≡ expecteds cases
 

@@ -73,13 +73,13 @@ strikeKey s = digit (s .call) ∷ s .expiry ∷ cond (s .call) (99999999 - s .st
 unfoldable pub byStrike : List Leg → List Leg
 byStrike = sort (λ l. strikeKey (l .series) ++ wholeLeg l)
 
--- 2. "what is left at one type and strike is walked from the nearest expiry to the farthest"
+-- Document 01, step 2, as amended by S-5: "what is left at one type and strike is walked" from "the farthest expiry" "towards the nearest", "same manner"
 abbrev pub oneStrike : Series → Series → Bool
 oneStrike s t = sameBool (s .call) (t .call) && eqb (s .strike .0) (t .strike .0)
 
--- the second walk's sequence, latest walked first
+-- the second walk's sequence, latest walked first: the nearest expiry, which is walked last, is the first
 abbrev pub expiryKey : Series → List ℕ
-expiryKey s = digit (s .call) ∷ s .strike .0 ∷ (99999999 - s .expiry) ∷ []
+expiryKey s = digit (s .call) ∷ s .strike .0 ∷ s .expiry ∷ []
 
 unfoldable pub byExpiry : List Leg → List Leg
 byExpiry = sort (λ l. expiryKey (l .series) ++ wholeLeg l)

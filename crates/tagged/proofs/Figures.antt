@@ -169,12 +169,12 @@ module _ (tags left : List ℕ) (n : ℕ) (q : InSequence n tags left) (second :
   unfolding openOn
   nothing s j h = rw (no-leg j h) refl
 
-  module _ (i : ℕ) (s : Step) (h : i < n) (g : Stands tags left n second (i + 1) s) where
+  module _ (i : ℕ) (s : Step) (h : i < n) (g : Stands tags left n (i + 1) s) where
     abbrev Begins : Bool → Type 0
     Begins same = cond same (s .figure) (pos 0) ≡ openContracts (together second) (seriesIn tags second i) (legsFromOn root tags left n second (i + 1))
 
     first-of-all : i + 1 ≡ n → (same : Bool) → Begins same
-    first-of-all e true = g .figure root ∙ nothing (seriesIn tags second (i + 1)) (i + 1) (omega arith) ∙ sym (nothing (seriesIn tags second i) (i + 1) (omega arith))
+    first-of-all e true = g .figure root second ∙ nothing (seriesIn tags second (i + 1)) (i + 1) (omega arith) ∙ sym (nothing (seriesIn tags second i) (i + 1) (omega arith))
     first-of-all e false = sym (nothing (seriesIn tags second i) (i + 1) (omega arith))
 
     module _ (l : i + 1 < n) where
@@ -185,7 +185,7 @@ module _ (tags left : List ℕ) (n : ℕ) (q : InSequence n tags left) (second :
       goes-on e =
           let one = grouped ∙ eq-eqb (groupOf (getD tags i 0)) (groupOf (getD tags (i + 1) 0)) (sym e ∙ g .group l) in
           let alike : (side : Bool) → openOn (together second) side (seriesIn tags second i) (legsFromOn root tags left n second (i + 1)) ≡ openOn (together second) side (seriesIn tags second (i + 1)) (legsFromOn root tags left n second (i + 1)) = λ side. open-alike (together second) (grouping second) side (seriesIn tags second i) (seriesIn tags second (i + 1)) (legsFromOn root tags left n second (i + 1)) one in
-          g .figure root ∙ sym (ap₂ subℕ (alike true) (alike false))
+          g .figure root second ∙ sym (ap₂ subℕ (alike true) (alike false))
 
       new-group : (s .group ≡ groupOf (getD tags i 0) → ⊥) → Begins false
       new-group d =
@@ -291,9 +291,9 @@ module _ (tags left : List ℕ) (n : ℕ) (q : InSequence n tags left) (second :
     met f f′ g e = rw (rears, rests) (searching.next (together second) (rw (next-leg j l) at g) at m f′ long there as-legs (rw rears at e))
 
 -- the figure does not show the other side: the leg at `i` meets nothing
-module _ (tags left : List ℕ) (n : ℕ) (q : InSequence n tags left) (second : Bool) (i : ℕ) (h : i < n) (f : ℤ) (counts : Counts tags left n second i (i + 1) f) (one : OneSideOpen tags left n second i)
+module _ (tags left : List ℕ) (n : ℕ) (q : InSequence n tags left) (i : ℕ) (h : i < n) (f : ℤ) (counts : Counts tags left n i (i + 1) f) (one : OneSideOpen tags left n i)
     (unshown : showsOther f (sign (isBought (getD tags i 0))) ≡ false) where
-  module _ (root : ℕ) where
+  module _ (root : ℕ) (second : Bool) where
     x : Leg
     x = legAt root second (getD tags i 0) (getD left i 0)
 
@@ -304,7 +304,7 @@ module _ (tags left : List ℕ) (n : ℕ) (q : InSequence n tags left) (second :
     unfolding x behind
     alone =
         ap (λ (z : Leg). reach (together second) z behind) (leg-is tags n (q .valid) second root left i (q .full) (omega (arith, q .valid .few)))
-        ∙ searching.stop (together second) (searching.start (together second) x behind f (counts root) (one root)) (inr unshown)
+        ∙ searching.stop (together second) (searching.start (together second) x behind f (counts root second) (one root second)) (inr unshown)
 
     whole : legsIn root second n tags left ≡ legsIn root second i tags left ++ (x ∷ behind)
     unfolding x behind
@@ -313,11 +313,11 @@ module _ (tags left : List ℕ) (n : ℕ) (q : InSequence n tags left) (second :
         sym (take-append-drop i (take n legs))
         ∙ ap₂ _++_ (take-take i n legs (omega arith)) (next-leg tags left n q second root i h)
 
-  pub unsearched : (t : PairTally) → Reaches tags left left i n second t t
+  pub unsearched : (t : PairTally) → Reaches tags left left i n t t
   unsearched t =
       record {
-        legs = λ root. rw (alone root) (whole root);
-        tally = λ root. rw (alone root);
+        legs = λ root second. rw (alone root second) (whole root second);
+        tally = λ root second. rw (alone root second);
         few = omega arith;
         sequence = q;
       }
@@ -325,13 +325,13 @@ module _ (tags left : List ℕ) (n : ℕ) (q : InSequence n tags left) (second :
 -- ---- the walk
 
 -- nothing is walked yet
-pub stands-first : (tags left : List ℕ) (n : ℕ) → InSequence n tags left → (second : Bool) (s : Step) → s .figure ≡ pos 0 → Stands tags left n second n s
-stands-first tags left n q second s e = record { figure = λ root. e ∙ sym (nothing tags left n q second root (seriesIn tags second n) n (omega arith)); group = λ h. absurd (omega arith) }
+pub stands-first : (tags left : List ℕ) (n : ℕ) → InSequence n tags left → (s : Step) → s .figure ≡ pos 0 → Stands tags left n n s
+stands-first tags left n q s e = record { figure = λ root second. e ∙ sym (nothing tags left n q second root (seriesIn tags second n) n (omega arith)); group = λ h. absurd (omega arith) }
 
 -- what the walk of the legs behind `i` left
-pub one-side-walked : (tags left₀ left : List ℕ) (n : ℕ) → Tagged n tags → length left₀ ≡ 16 → (second : Bool) (t : PairTally) (i : ℕ) → i < n → ((root : ℕ) → Outer tags n second root left₀ left t (i + 1)) → OneSideOpen tags left n second i
-one-side-walked tags left₀ left n tg l second t i h o root =
+pub one-side-walked : (tags left₀ left : List ℕ) (n : ℕ) → Tagged n tags → length left₀ ≡ 16 → (t : PairTally) (i : ℕ) → i < n → ((root : ℕ) (second : Bool) → Outer tags n second root left₀ left t (i + 1)) → OneSideOpen tags left n i
+one-side-walked tags left₀ left n tg l t i h o root second =
     let same = together second in
     let legs = legsFrom root second tags left₀ in
-    let e = later same legs (legsFrom root second tags left) n (legs-full tags n tg second root left₀ l) (tg .few) i h (o root .done) in
+    let e = later same legs (legsFrom root second tags left) n (legs-full tags n tg second root left₀ l) (tg .few) i h (o root second .done) in
     one-sided same (grouping second) (seriesIn tags second i) (legsFromOn root tags left n second (i + 1)) (rw e (walk-each-two same (drop (i + 1) (take n legs))))

@@ -28,9 +28,9 @@ pub record Outer (tags : List ℕ) (n : ℕ) (second : Bool) (root : ℕ) (left�
   pub done : take n (legsFrom root second tags left) ≡ take i (legsFrom root second tags left₀) ++ walk (together second) (drop i (take n (legsFrom root second tags left₀))) .legs
   pub counted : t ≡ noted none (walk (together second) (drop i (take n (legsFrom root second tags left₀))) .pairs)
 
-note-none : (t : PairTally) (second : Bool) (tx ty : ℕ) → t ≡ noteAt t second tx ty 0
+note-none : (t : PairTally) (tx ty : ℕ) → t ≡ noteAt t tx ty 0
 unfolding noteAt
-note-none t second tx ty = refl
+note-none t tx ty = refl
 
 module _ (P : ℕ → Type 0) where
   pub all-at : (xs : List ℕ) → All P xs → (i : ℕ) → i < length xs → P (getD xs i 0)
@@ -60,7 +60,7 @@ module _ (tags : List ℕ) (n : ℕ) (tg : Tagged n tags) (second : Bool) (root 
 
   pub inner-turn : (left : List ℕ) (t t′ : PairTally) (tx x j m : ℕ) → length left ≡ 16 → tx < 40000000000000000 → j < n
       → m ≡ matchedAt tx x (getD tags j 0) (getD left j 0)
-      → t′ ≡ noteAt t second tx (getD tags j 0) m
+      → t′ ≡ noteAt t tx (getD tags j 0) m
       → inner tags n second root (set left j (getD left j 0 - m)) t′ tx (x - m) (j + 1) ≡ inner tags n second root left t tx x j
   inner-turn left t t′ tx x j m l small h em et =
       let ty = getD tags j 0 in
@@ -82,7 +82,7 @@ module _ (tags : List ℕ) (n : ℕ) (tg : Tagged n tags) (second : Bool) (root 
       let same : set left j (getD left j 0 - 0) ≡ left = rw sub-zero (set-getD left j 0) in
       ap (λ (v : List ℕ). inner tags n second root v t tx x (j + 1)) (sym same)
       ∙ ap (λ (y : ℕ). inner tags n second root (set left j (getD left j 0 - 0)) t tx y (j + 1)) (sym (sub-zero x))
-      ∙ inner-turn left t t tx x j 0 l small h (sym e) (note-none t second tx (getD tags j 0))
+      ∙ inner-turn left t t tx x j 0 l small h (sym e) (note-none t tx (getD tags j 0))
 
   -- the leg at `i` has nothing more to meet, and is put back
   module _ (left₀ left : List ℕ) (l₀ : length left₀ ≡ 16) (l : length left ≡ 16) (t₀ t : PairTally) (x i j : ℕ) (h : i < n) (within : j ≤ n)

@@ -13,7 +13,7 @@ use Rattle.rules.specs.Pairing.{pairOf, matched, isDebit}
 use Rattle.rules.proofs.Tests.{and-both, or-false, same-test}
 use Rattle.keys.specs.Tags.{isBought, groupOf, seriesAt, legAt}
 use Rattle.tagged.specs.declared.PairTally.{PairTally}
-use Rattle.tagged.specs.Tags.{together, matchedAt, debitKeys, debitAt, oneMore, noteAs, noteAt, counted, noted}
+use Rattle.tagged.specs.Tags.{together, matchedAt, debitAt, oneMore, noteAs, noteAt, counted, noted}
 
 or-true : (a : Bool) → a || true ≡ true
 or-true true = refl
@@ -67,17 +67,17 @@ first-debit : (b s : ℕ) → b / 100000000 ≡ s / 100000000 → (c : Bool)
 first-debit b s e true = same-test _ _ (λ h. lt-ltb s b (omega (arith, ltb-true (99999999 - b % 100000000) (99999999 - s % 100000000) h))) (λ h. lt-ltb (99999999 - b % 100000000) (99999999 - s % 100000000) (omega (arith, ltb-true s b h)))
 first-debit b s e false = same-test _ _ (λ h. lt-ltb s b (omega (arith, ltb-true (s % 100000000) (b % 100000000) h))) (λ h. lt-ltb (s % 100000000) (b % 100000000) (omega (arith, ltb-true s b h)))
 
-second-debit : (b s m : ℕ) → b / 100000000 ≡ s / 100000000 → (c q : Bool) → eqb (99999999 - b % 100000000) (99999999 - s % 100000000) ≡ q
-    → cond q (cond c (ltb m m) (ltb m m)) (ltb (99999999 - s % 100000000) (99999999 - b % 100000000)) ≡ ltb b s
-second-debit b s m e true true f = le-ltb m m (omega arith) ∙ sym (le-ltb b s (omega (arith, eqb-true (99999999 - b % 100000000) (99999999 - s % 100000000) f)))
-second-debit b s m e false true f = le-ltb m m (omega arith) ∙ sym (le-ltb b s (omega (arith, eqb-true (99999999 - b % 100000000) (99999999 - s % 100000000) f)))
-second-debit b s m e c false f = same-test _ _ (λ h. lt-ltb b s (omega (arith, ltb-true (99999999 - s % 100000000) (99999999 - b % 100000000) h))) (λ h. lt-ltb (99999999 - s % 100000000) (99999999 - b % 100000000) (omega (arith, ltb-true b s h)))
+second-debit : (b s m : ℕ) → b / 100000000 ≡ s / 100000000 → (c q : Bool) → eqb (b % 100000000) (s % 100000000) ≡ q
+    → cond q (cond c (ltb m m) (ltb m m)) (ltb (s % 100000000) (b % 100000000)) ≡ ltb s b
+second-debit b s m e true true f = le-ltb m m (omega arith) ∙ sym (le-ltb s b (omega (arith, eqb-true (b % 100000000) (s % 100000000) f)))
+second-debit b s m e false true f = le-ltb m m (omega arith) ∙ sym (le-ltb s b (omega (arith, eqb-true (b % 100000000) (s % 100000000) f)))
+second-debit b s m e c false f = same-test _ _ (λ h. lt-ltb s b (omega (arith, ltb-true (s % 100000000) (b % 100000000) h))) (λ h. lt-ltb (s % 100000000) (b % 100000000) (omega (arith, ltb-true s b h)))
 
-debit-keys : (second : Bool) (b s : ℕ) → b / 100000000 ≡ s / 100000000 → isDebit (seriesAt second b) (seriesAt second s) ≡ debitKeys second b s
+debit-keys : (second : Bool) (b s : ℕ) → b / 100000000 ≡ s / 100000000 → isDebit (seriesAt second b) (seriesAt second s) ≡ ltb s b
 unfolding seriesAt isDebit
 debit-keys true b s e =
     let e₂ : s / 100000000 % 100000000 ≡ b / 100000000 % 100000000 = omega arith in
-    rw e₂ (second-debit b s (b / 100000000 % 100000000) e (eqb (b / 10000000000000000) 1) (eqb (99999999 - b % 100000000) (99999999 - s % 100000000)) refl)
+    rw e₂ (second-debit b s (b / 100000000 % 100000000) e (eqb (b / 10000000000000000) 1) (eqb (b % 100000000) (s % 100000000)) refl)
 debit-keys false b s e =
     let e₁ : s / 10000000000000000 ≡ b / 10000000000000000 = omega arith in
     let e₂ : s / 100000000 % 100000000 ≡ b / 100000000 % 100000000 = omega arith in
@@ -94,11 +94,11 @@ unfolding pairOf
 pair-none x y = refl
 
 turn : (second c : Bool) (k l : ℕ) → k / 100000000 ≡ l / 100000000
-    → isDebit (cond c (seriesAt second k) (seriesAt second l)) (cond c (seriesAt second l) (seriesAt second k)) ≡ cond c (debitKeys second k l) (debitKeys second l k)
+    → isDebit (cond c (seriesAt second k) (seriesAt second l)) (cond c (seriesAt second l) (seriesAt second k)) ≡ cond c (ltb l k) (ltb k l)
 turn second true k l e = debit-keys second k l e
 turn second false k l e = debit-keys second l k (sym e)
 
-pub note-tags : (t : PairTally) (root : ℕ) (second : Bool) (tx x ty y n : ℕ) → (0 < n → groupOf tx ≡ groupOf ty) → noted t (pairOf (legAt root second tx x) (legAt root second ty y) n) ≡ noteAt t second tx ty n
+pub note-tags : (t : PairTally) (root : ℕ) (second : Bool) (tx x ty y n : ℕ) → (0 < n → groupOf tx ≡ groupOf ty) → noted t (pairOf (legAt root second tx x) (legAt root second ty y) n) ≡ noteAt t tx ty n
 unfolding noteAt
 note-tags t root second tx x ty y n h = go (eqb n 0) refl
   where
@@ -108,30 +108,28 @@ note-tags t root second tx x ty y n h = go (eqb n 0) refl
         nothing : noted t (pairOf (legAt root second tx x) (legAt root second ty y) 0) ≡ t
         nothing = ap (noted t) (pair-none (legAt root second tx x) (legAt root second ty y))
 
-    go : (b : Bool) → eqb n 0 ≡ b → noted t (pairOf (legAt root second tx x) (legAt root second ty y) n) ≡ cond b t (oneMore t (debitAt second tx ty))
+    go : (b : Bool) → eqb n 0 ≡ b → noted t (pairOf (legAt root second tx x) (legAt root second ty y) n) ≡ cond b t (oneMore t (debitAt tx ty))
     go true e = none (eqb-true n 0 e)
     go false e =
         let z = eqb-false n 0 e in
         let g : tx / 2 / 100000000 ≡ ty / 2 / 100000000 = omega (arith, h (pos-of-ne-zero z)) in
         ap (noted t) (pair-some (legAt root second tx x) (legAt root second ty y) n z) ∙ ap (oneMore t) (turn second (isBought tx) (tx / 2) (ty / 2) g)
 
--- keys rise: which of two legs has the greater key is known, and the side of the first decides
-pub note-rising : (t : PairTally) (second : Bool) (tx ty n : ℕ) → tx / 2 < ty / 2 → noteAs t (sameBool (isBought tx) second) n ≡ noteAt t second tx ty n
+-- keys rise: the leg that is reached has the lesser one, so a pair is a debit where that leg is sold
+pub note-rising : (t : PairTally) (tx ty n : ℕ) → tx / 2 < ty / 2 → noteAs t (not (isBought tx)) n ≡ noteAt t tx ty n
 unfolding noteAt
-note-rising t second tx ty n h = ap (λ (d : Bool). noteAs t d n) (go (isBought tx) second)
+note-rising t tx ty n h = ap (λ (d : Bool). noteAs t d n) (go (isBought tx))
   where
-    go : (b s : Bool) → sameBool b s ≡ cond b (debitKeys s (tx / 2) (ty / 2)) (debitKeys s (ty / 2) (tx / 2))
-    go true true = sym (lt-ltb (tx / 2) (ty / 2) h)
-    go true false = sym (le-ltb (ty / 2) (tx / 2) (omega arith))
-    go false true = sym (le-ltb (ty / 2) (tx / 2) (omega arith))
-    go false false = sym (lt-ltb (tx / 2) (ty / 2) h)
+    go : (b : Bool) → not b ≡ cond b (ltb (ty / 2) (tx / 2)) (ltb (tx / 2) (ty / 2))
+    go true = sym (le-ltb (ty / 2) (tx / 2) (omega arith))
+    go false = sym (lt-ltb (tx / 2) (ty / 2) h)
 
 -- at most one pair more
-pub note-few : (t : PairTally) (second : Bool) (tx ty n : ℕ) → noteAt t second tx ty n .pairs ≤ t .pairs + 1
+pub note-few : (t : PairTally) (tx ty n : ℕ) → noteAt t tx ty n .pairs ≤ t .pairs + 1
 unfolding noteAt
-note-few t second tx ty n = go (eqb n 0)
+note-few t tx ty n = go (eqb n 0)
   where
-    go : (b : Bool) → cond b t (oneMore t (debitAt second tx ty)) .pairs ≤ t .pairs + 1
+    go : (b : Bool) → cond b t (oneMore t (debitAt tx ty)) .pairs ≤ t .pairs + 1
     go true = omega arith
     go false = omega arith
 

@@ -23,11 +23,9 @@ together second s t = cond second (oneStrike s t) (oneExpiry s t)
 unfoldable pub matchedAt : ℕ → ℕ → ℕ → ℕ → ℕ
 matchedAt tx x ty y = cond (eqb (groupOf tx) (groupOf ty) && not (sameBool (isBought tx) (isBought ty))) (min x y) 0
 
-abbrev pub debitKeys : Bool → ℕ → ℕ → Bool
-debitKeys second buy sell = cond second (ltb buy sell) (ltb sell buy)
-
-abbrev pub debitAt : Bool → ℕ → ℕ → Bool
-debitAt second tx ty = cond (isBought tx) (debitKeys second (tx / 2) (ty / 2)) (debitKeys second (ty / 2) (tx / 2))
+-- both walks go from the dearer series to the cheaper, and the latest walked has the least key: a pair is a debit where the buy has the greater key
+abbrev pub debitAt : ℕ → ℕ → Bool
+debitAt tx ty = cond (isBought tx) (ltb (ty / 2) (tx / 2)) (ltb (tx / 2) (ty / 2))
 
 abbrev pub oneMore : PairTally → Bool → PairTally
 oneMore t d = record { pairs = t .pairs + 1; debit = t .debit || d; credit = t .credit || not d }
@@ -36,8 +34,8 @@ oneMore t d = record { pairs = t .pairs + 1; debit = t .debit || d; credit = t .
 abbrev pub noteAs : PairTally → Bool → ℕ → PairTally
 noteAs t debit n = cond (eqb n 0) t (oneMore t debit)
 
-unfoldable pub noteAt : PairTally → Bool → ℕ → ℕ → ℕ → PairTally
-noteAt t second tx ty n = noteAs t (debitAt second tx ty) n
+unfoldable pub noteAt : PairTally → ℕ → ℕ → ℕ → PairTally
+noteAt t tx ty n = noteAs t (debitAt tx ty) n
 
 -- the tally of so many debits and credits
 abbrev pub counted : ℕ → ℕ → PairTally
@@ -58,7 +56,7 @@ abbrev pub noted : PairTally → List Pair → PairTally
 noted t [] = t
 noted t (m ∷ ms) = noted (oneMore t (isDebit (m .buy) (m .sell))) ms
 
--- ---- what a walk is given
+-- ---- what a walk is given: the tags of either walk. What is promised of them holds with the legs that they say in the first walk, and with those that they say in the second.
 
 -- legs in the walk's sequence, and counts in their limit
 pub record InSequence (n : ℕ) (tags left : List ℕ) : Type 0 where
@@ -78,25 +76,25 @@ abbrev pub seriesIn : List ℕ → Bool → ℕ → Series
 seriesIn tags second i = seriesAt second (getD tags i 0 / 2)
 
 -- S-3's promise: the figure is the sum of the open contracts, bought less sold, of the legs from `from` on in the group of the leg at `i`
-abbrev pub Counts : List ℕ → List ℕ → ℕ → Bool → ℕ → ℕ → ℤ → Type 0
-Counts tags left n second i from f = (root : ℕ) → f ≡ openContracts (together second) (seriesIn tags second i) (legsFromOn root tags left n second from)
+abbrev pub Counts : List ℕ → List ℕ → ℕ → ℕ → ℕ → ℤ → Type 0
+Counts tags left n i from f = (root : ℕ) (second : Bool) → f ≡ openContracts (together second) (seriesIn tags second i) (legsFromOn root tags left n second from)
 
 -- what is open in the group of the leg at `i`, of those behind it, is of one side
-abbrev pub OneSideOpen : List ℕ → List ℕ → ℕ → Bool → ℕ → Type 0
-OneSideOpen tags left n second i =
-    (root : ℕ) (side : Bool) → let opened : Bool → ℕ = λ b. openOn (together second) b (seriesIn tags second i) (legsFromOn root tags left n second (i + 1)) in
+abbrev pub OneSideOpen : List ℕ → List ℕ → ℕ → ℕ → Type 0
+OneSideOpen tags left n i =
+    (root : ℕ) (second side : Bool) → let opened : Bool → ℕ = λ b. openOn (together second) b (seriesIn tags second i) (legsFromOn root tags left n second (i + 1)) in
     0 < opened side → opened (not side) ≡ 0
 
 -- the step after the leg at `i`: S-3's promise for its group. At `n` no leg is walked yet, and the figure is 0.
-pub record Stands (tags left : List ℕ) (n : ℕ) (second : Bool) (i : ℕ) (s : Step) : Type 0 where
-  pub figure : Counts tags left n second i i (s .figure)
+pub record Stands (tags left : List ℕ) (n i : ℕ) (s : Step) : Type 0 where
+  pub figure : Counts tags left n i i (s .figure)
   pub group : i < n → s .group ≡ groupOf (getD tags i 0)
 
 -- what is left after a match of `m` contracts of the leg at `i` with the one at `at`, and the step: the promise stands after the match as before it
-pub record Meets (tags left after : List ℕ) (i at n : ℕ) (second : Bool) (m : ℕ) (s r : Step) : Type 0 where
+pub record Meets (tags left after : List ℕ) (i at n m : ℕ) (s r : Step) : Type 0 where
   pub rest : after ≡ set left at (getD left at 0 - m)
-  pub tally : tallyOf r ≡ noteAt (tallyOf s) second (getD tags i 0) (getD tags at 0) m
-  pub figure : Counts tags after n second i (i + 1) (r .figure)
+  pub tally : tallyOf r ≡ noteAt (tallyOf s) (getD tags i 0) (getD tags at 0) m
+  pub figure : Counts tags after n i (i + 1) (r .figure)
   pub group : r .group ≡ s .group
 
 -- ---- what it leaves
@@ -106,14 +104,14 @@ abbrev pub reached : ℕ → List ℕ → List ℕ → ℕ → ℕ → Bool → 
 reached root tags left i n second =
     let legs = legsFrom root second tags left in reach (together second) (getD legs i noLeg) (drop (i + 1) (take n legs))
 
-pub record Reaches (tags left after : List ℕ) (i n : ℕ) (second : Bool) (t r : PairTally) : Type 0 where
-  pub legs : (root : ℕ) → let q = reached root tags left i n second in legsIn root second n tags after ≡ legsIn root second i tags left ++ (q .leg ∷ q .legs)
-  pub tally : (root : ℕ) → r ≡ noted t (reached root tags left i n second .pairs)
+pub record Reaches (tags left after : List ℕ) (i n : ℕ) (t r : PairTally) : Type 0 where
+  pub legs : (root : ℕ) (second : Bool) → let q = reached root tags left i n second in legsIn root second n tags after ≡ legsIn root second i tags left ++ (q .leg ∷ q .legs)
+  pub tally : (root : ℕ) (second : Bool) → r ≡ noted t (reached root tags left i n second .pairs)
   pub few : r .pairs ≤ t .pairs + 16
   pub sequence : InSequence n tags after
 
 -- the definition's walk: what is left, and the tally of the pairs
-pub record Walks (tags left after : List ℕ) (n : ℕ) (second : Bool) (r : PairTally) : Type 0 where
-  pub legs : (root : ℕ) → legsIn root second n tags after ≡ walk (together second) (legsIn root second n tags left) .legs
-  pub tally : (root : ℕ) → r ≡ noted none (walk (together second) (legsIn root second n tags left) .pairs)
+pub record Walks (tags left after : List ℕ) (n : ℕ) (r : PairTally) : Type 0 where
+  pub legs : (root : ℕ) (second : Bool) → legsIn root second n tags after ≡ walk (together second) (legsIn root second n tags left) .legs
+  pub tally : (root : ℕ) (second : Bool) → r ≡ noted none (walk (together second) (legsIn root second n tags left) .pairs)
   pub sequence : InSequence n tags after

@@ -20,16 +20,16 @@ ghost use Rattle.tagged.specs.Tags.{tallyOf, InSequence, Counts, OneSideOpen, S
 
 // The leg at i is matched with those behind it, while it has contracts left and the figure shows the other side: the
 // next of them is then of its group, and what that has open is of the other side.
-fn search(tags: &[u64; 16], left: &mut [u64; 16], i: usize, n: usize, second: bool, s: Step) -> Step
+fn search(tags: &[u64; 16], left: &mut [u64; 16], i: usize, n: usize, s: Step) -> Step
     requires { ⌜ InSequence n (now tags) (now left) × (i < n) × (s .debits + s .credits < 900) ⌝ }
     requires { ⌜
-        Counts (now tags) (now left) n second i (i + 1) (s .figure) × OneSideOpen (now tags) (now left) n second i
+        Counts (now tags) (now left) n i (i + 1) (s .figure) × OneSideOpen (now tags) (now left) n i
         × (showsOther (s .figure) (sign (isBought (getD (now tags) i 0))) ≡ true)
         ⌝ }
     ensures { λ r.
-        ⌜ Reaches (now (tags .entry)) (now (left .entry)) (now (left .exit)) i n second (tallyOf s) (tallyOf r) ⌝ }
+        ⌜ Reaches (now (tags .entry)) (now (left .entry)) (now (left .exit)) i n (tallyOf s) (tallyOf r) ⌝ }
     ensures { λ r.
-        ⌜ Counts (now (tags .entry)) (now (left .exit)) n second i (i + 1) (r .figure) × (r .group ≡ s .group) ⌝ }
+        ⌜ Counts (now (tags .entry)) (now (left .exit)) n i (i + 1) (r .figure) × (r .group ≡ s .group) ⌝ }
 {
     let sign = sign_of(tags[i]);
     let mut x = left[i];
@@ -41,7 +41,7 @@ fn search(tags: &[u64; 16], left: &mut [u64; 16], i: usize, n: usize, second: bo
         let m = smaller(x, left[at]);
         // A leg of the group that has nothing left is passed.
         if m != 0 {
-            r = meet(tags, left, i, at, n, second, m, r);
+            r = meet(tags, left, i, at, n, m, r);
             x -= m;
         }
     }
@@ -50,12 +50,12 @@ fn search(tags: &[u64; 16], left: &mut [u64; 16], i: usize, n: usize, second: bo
 }
 
 // The leg at i is reached, after all that stand behind it. What it has left is open from then on.
-fn reach(tags: &[u64; 16], left: &mut [u64; 16], i: usize, n: usize, second: bool, s: Step) -> Step
+fn reach(tags: &[u64; 16], left: &mut [u64; 16], i: usize, n: usize, s: Step) -> Step
     requires { ⌜ InSequence n (now tags) (now left) × (i < n) × (s .debits + s .credits < 900) ⌝ }
-    requires { ⌜ Stands (now tags) (now left) n second (i + 1) s × OneSideOpen (now tags) (now left) n second i ⌝ }
+    requires { ⌜ Stands (now tags) (now left) n (i + 1) s × OneSideOpen (now tags) (now left) n i ⌝ }
     ensures { λ r.
-        ⌜ Reaches (now (tags .entry)) (now (left .entry)) (now (left .exit)) i n second (tallyOf s) (tallyOf r) ⌝ }
-    ensures { λ r. ⌜ Stands (now (tags .entry)) (now (left .exit)) n second i r ⌝ }
+        ⌜ Reaches (now (tags .entry)) (now (left .entry)) (now (left .exit)) i n (tallyOf s) (tallyOf r) ⌝ }
+    ensures { λ r. ⌜ Stands (now (tags .entry)) (now (left .exit)) n i r ⌝ }
 {
     let tx = tags[i];
     let sign = sign_of(tx);
@@ -68,7 +68,7 @@ fn reach(tags: &[u64; 16], left: &mut [u64; 16], i: usize, n: usize, second: boo
         figure: f,
     };
     if shows_other(f, sign) {
-        r = search(tags, left, i, n, second, r);
+        r = search(tags, left, i, n, r);
     }
     let rest = left[i];
     let open = r.figure;
@@ -77,9 +77,9 @@ fn reach(tags: &[u64; 16], left: &mut [u64; 16], i: usize, n: usize, second: boo
 }
 
 // The walk over the first n legs: from the last to the first.
-pub fn walk(tags: &[u64; 16], left: &mut [u64; 16], n: usize, second: bool) -> PairTally
+pub fn walk(tags: &[u64; 16], left: &mut [u64; 16], n: usize) -> PairTally
     requires { ⌜ InSequence n (now tags) (now left) ⌝ }
-    ensures { λ r. ⌜ Walks (now (tags .entry)) (now (left .entry)) (now (left .exit)) n second r ⌝ }
+    ensures { λ r. ⌜ Walks (now (tags .entry)) (now (left .entry)) (now (left .exit)) n r ⌝ }
 {
     let mut s = Step {
         debits: 0,
@@ -90,7 +90,7 @@ pub fn walk(tags: &[u64; 16], left: &mut [u64; 16], n: usize, second: bool) -> P
     let mut i = n;
     while 0 < i {
         i -= 1;
-        s = reach(tags, left, i, n, second, s);
+        s = reach(tags, left, i, n, s);
     }
     PairTally {
         pairs: s.debits + s.credits,

@@ -117,5 +117,5 @@ module _ {n : ℕ} {tags left sorted seconds rest : List ℕ} (q : InSequence n 
       ∙ ap byExpiry (sym (zip-take (legAt root false) n tags left))
 
   -- the second walk and its loners
-  pub second-tallied : {after : List ℕ} {b r : PairTally} → Walks seconds rest after n true b → Loners b seconds after n r → r ≡ tallied (walk oneStrike (byExpiry (legsIn root false n tags left)))
-  second-tallied w lo = lo .legs root true ∙ ap₂ allAlone (w .tally root) (w .legs root) ∙ ap (λ (xs : List Leg). tallied (walk oneStrike xs)) in-sequence
+  pub second-tallied : {after : List ℕ} {b r : PairTally} → Walks seconds rest after n b → Loners b seconds after n r → r ≡ tallied (walk oneStrike (byExpiry (legsIn root false n tags left)))
+  second-tallied w lo = lo .legs root true ∙ ap₂ allAlone (w .tally root true) (w .legs root true) ∙ ap (λ (xs : List Leg). tallied (walk oneStrike xs)) in-sequence

@@ -2,7 +2,7 @@
 use borrow.Author.Needs.{needs}
 use mathlib.Core.Path.{_≡_, refl, sym, ap, ap₂, _∙_}
 use mathlib.Core.List.{List}
-use mathlib.Core.Bool.{Bool}
+use mathlib.Core.Bool.{Bool, false, not}
 use Prim.Native.Nat.{ℕ, _≤_, _-_, _+_}
 use native.Mathlib.Omega.{arith}
 use lib.IntN.{ℤ, natAbs}
@@ -10,9 +10,7 @@ use lib.ListN.{getD}
 use borrow.Author.Tests.{ne-eqb}
 use mir.Syntax.{w64}
 use mir.Val.{toZ, ofZ}
-use Rattle.rules.specs.Lists.{sameBool}
 use Rattle.rules.specs.OpenContracts.{sign, adjusted}
-use Rattle.rules.proofs.Tests.{beq-same}
 use Rattle.figure.proofs.Small.{held}
 use Rattle.keys.specs.Tags.{isBought}
 use Rattle.tagged.specs.declared.PairTally.{PairTally}
@@ -44,9 +42,6 @@ module _ (s : tie.Start) where
   abbrev at : ℕ
   at = s .args .at
 
-  abbrev second : Bool
-  second = s .args .second
-
   abbrev m : ℕ
   m = s .args .m
 
@@ -56,7 +51,7 @@ module _ (s : tie.Start) where
   sequence : InSequence n tags left
   sequence = s .pre .0 .0
 
-  counts : Counts tags left n second i (i + 1) (s .args .s .figure)
+  counts : Counts tags left n i (i + 1) (s .args .s .figure)
   counts = s .pre .1 .2
 
   few : m ≤ getD left at 0
@@ -66,7 +61,7 @@ module _ (s : tie.Start) where
   few-all = omega (arith, few, count-at tags left n sequence at (s .pre .0 .2))
 
   figure-small : natAbs (s .args .s .figure) ≤ 160000
-  figure-small = rw (counts 0) (figure-fits tags left n sequence second 0 (seriesIn tags second i) (i + 1))
+  figure-small = rw (counts 0 false) (figure-fits tags left n sequence false 0 (seriesIn tags false i) (i + 1))
 
   figure-read : toZ w64 (ofZ w64 (s .args .s .figure)) ≡ s .args .s .figure
   figure-read = held (s .args .s .figure) (omega (arith, figure-small))
@@ -89,10 +84,10 @@ returns c =
     let g = a .before .before in
     let s = g .before .before .before in
     let t = s .args .s in
-    let debit = sameBool (isBought (tx s)) (second s) in
+    let debit = not (isBought (tx s)) in
     let figure-is : a .adjusted .result ≡ adjusted (t .figure) (sign (isBought (tx s))) (m s) = a .adjusted .ensures ∙ ap₂ (λ (z k : ℤ). adjusted z k (m s)) (figure-read s) (sign-read g) in
     let figure-kept = held (a .adjusted .result) (rw figure-is (omega (arith, adjusted-small (t .figure) (isBought (tx s)) (m s), figure-small s, few-all s))) ∙ figure-is in
-    let side = beq-same (c .before .is-bought .result) (second s) ∙ ap (λ (b : Bool). sameBool b (second s)) (c .before .is-bought .ensures) in
+    let side = ap not (c .before .is-bought .ensures) in
     let r : c .after-match .result ≡ afterMatch t debit (adjusted (t .figure) (sign (isBought (tx s))) (m s)) = c .after-match .ensures ∙ ap₂ (afterMatch t) side figure-kept in
     record {
       rest = refl;
@@ -100,11 +95,11 @@ returns c =
           ap tallyOf r
           ∙ counted-more (t .debits) (t .credits) debit
           ∙ some-noted (tallyOf t) debit (m s) (s .pre .1 .0)
-          ∙ note-rising (tallyOf t) (second s) (tx s) (getD (tags s) (at s) 0) (m s) (rises (tags s) (left s) (n s) (sequence s) (second s) 0 (i s) (at s) (s .pre .0 .1) (s .pre .0 .2));
-      figure = λ root.
+          ∙ note-rising (tallyOf t) (tx s) (getD (tags s) (at s) 0) (m s) (rises (tags s) (left s) (n s) (sequence s) false 0 (i s) (at s) (s .pre .0 .1) (s .pre .0 .2));
+      figure = λ root second.
           ap (λ (z : Step). z .figure) r
-          ∙ ap (λ (z : ℤ). adjusted z (sign (isBought (tx s))) (m s)) (counts s root)
-          ∙ met-figure (tags s) (left s) (n s) (sequence s) (second s) root (i s) (at s) (m s) (m s) (s .pre .0 .1) (s .pre .0 .2) (sym (s .pre .1 .1));
+          ∙ ap (λ (z : ℤ). adjusted z (sign (isBought (tx s))) (m s)) (counts s root second)
+          ∙ met-figure (tags s) (left s) (n s) (sequence s) second root (i s) (at s) (m s) (m s) (s .pre .0 .1) (s .pre .0 .2) (sym (s .pre .1 .1));
       group = ap (λ (z : Step). z .group) r;
     }
 

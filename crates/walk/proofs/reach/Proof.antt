@@ -39,31 +39,28 @@ module _ (c : tie.After-begun) where
   abbrev i : ℕ
   i = start .args .i
 
-  abbrev second : Bool
-  second = start .args .second
-
   sequence : InSequence n tags left
   sequence = start .pre .0 .0
 
   within : i < n
   within = start .pre .0 .1
 
-  stands : Stands tags left n second (i + 1) (start .args .s)
+  stands : Stands tags left n (i + 1) (start .args .s)
   stands = start .pre .1 .0
 
-  counts : Counts tags left n second i (i + 1) (c .begun .result)
-  counts root =
+  counts : Counts tags left n i (i + 1) (c .begun .result)
+  counts root second =
       let s = start .args .s in
-      let same = held (s .figure) (rw (stands .figure 0) (omega (arith, figure-fits tags left n sequence second 0 (seriesIn tags second (i + 1)) (i + 1)))) in
+      let same = held (s .figure) (rw (stands .figure 0 false) (omega (arith, figure-fits tags left n sequence false 0 (seriesIn tags false (i + 1)) (i + 1)))) in
       c .begun .ensures
       ∙ ap₂ (λ (z : ℤ) (g : ℕ). cond (eqb (s .group) g) z (pos 0)) same (c .before .before .group-of .ensures)
       ∙ begins tags left n sequence second root i s within stands
 
   read : toZ w64 (ofZ w64 (c .begun .result)) ≡ c .begun .result
-  read = held (c .begun .result) (rw (counts 0) (omega (arith, figure-fits tags left n sequence second 0 (seriesIn tags second i) (i + 1))))
+  read = held (c .begun .result) (rw (counts 0 false) (omega (arith, figure-fits tags left n sequence false 0 (seriesIn tags false i) (i + 1))))
 
   small : natAbs (c .begun .result) ≤ 1000000
-  small = rw (counts 0) (omega (arith, figure-fits tags left n sequence second 0 (seriesIn tags second i) (i + 1)))
+  small = rw (counts 0 false) (omega (arith, figure-fits tags left n sequence false 0 (seriesIn tags false i) (i + 1)))
 
   -- the leg's sign
   abbrev tx : ℕ
@@ -78,13 +75,13 @@ shows-other-requires c κs = (rw (read c) (small c), rw (sign-read c) (sign-smal
 search-requires : tie.Need-search-requires
 search-requires c κs =
     let b = c .before .before .before in
-    ((sequence b, within b, start b .pre .0 .2), ((λ root. read b ∙ counts b root), start b .pre .1 .1, ap (λ (z : ℤ). showsOther z (sign (isBought (tx b)))) (read b) ∙ ap₂ (λ (s z : ℤ). showsOther z s) (sym (sign-read b)) (sym (read b)) ∙ sym (c .before .before .shows-other .ensures) ∙ c .before .if1 .taken))
+    ((sequence b, within b, start b .pre .0 .2), ((λ root second. read b ∙ counts b root second), start b .pre .1 .1, ap (λ (z : ℤ). showsOther z (sign (isBought (tx b)))) (read b) ∙ ap₂ (λ (s z : ℤ). showsOther z s) (sym (sign-read b)) (sym (read b)) ∙ sym (c .before .before .shows-other .ensures) ∙ c .before .if1 .taken))
 
 -- ---- searched or not
 
 record Found (b : tie.After-begun) (after : List ℕ) (r : Step) : Type 0 where
-  reaches : Reaches (tags b) (left b) after (i b) (n b) (second b) (tallyOf (start b .args .s)) (tallyOf r)
-  figure : Counts (tags b) after (n b) (second b) (i b) (i b + 1) (r .figure)
+  reaches : Reaches (tags b) (left b) after (i b) (n b) (tallyOf (start b .args .s)) (tallyOf r)
+  figure : Counts (tags b) after (n b) (i b) (i b + 1) (r .figure)
   group : r .group ≡ groupOf (getD (tags b) (i b) 0)
 
 found : (c : tie.Joined1) → Found (c .before .before) (c .if1 .left) (c .if1 .r)
@@ -95,7 +92,7 @@ found c =
     (λ w. let e = w .2 .ensures in rw (w .3, w .4) (record { reaches = e .0; figure = e .1 .0; group = e .1 .1 ∙ g }))
     (λ w.
     let h : showsOther (b .begun .result) (sign (isBought (tx b))) ≡ false = ap₂ (λ (s z : ℤ). showsOther z s) (sym (sign-read b)) (sym (read b)) ∙ sym (c .before .shows-other .ensures) ∙ w .0 .left in
-    rw (w .1, w .2) (record { reaches = unsearched (tags b) (left b) (n b) (sequence b) (second b) (i b) (within b) (b .begun .result) (counts b) (start b .pre .1 .1) h (tallyOf (start b .args .s)); figure = λ root. read b ∙ counts b root; group = g }))
+    rw (w .1, w .2) (record { reaches = unsearched (tags b) (left b) (n b) (sequence b) (i b) (within b) (b .begun .result) (counts b) (start b .pre .1 .1) h (tallyOf (start b .args .s)); figure = λ root second. read b ∙ counts b root second; group = g }))
     (c .if1 .came)
 
 -- ---- what the leg leaves open
@@ -105,7 +102,7 @@ module _ (c : tie.Joined1) where
   b = c .before .before
 
   open-small : natAbs (c .if1 .r .figure) ≤ 160000
-  open-small = rw (found c .figure 0) (figure-fits (tags b) (c .if1 .left) (n b) (found c .reaches .sequence) (second b) 0 (seriesIn (tags b) (second b) (i b)) (i b + 1))
+  open-small = rw (found c .figure 0 false) (figure-fits (tags b) (c .if1 .left) (n b) (found c .reaches .sequence) false 0 (seriesIn (tags b) false (i b)) (i b + 1))
 
   open-read : toZ w64 (ofZ w64 (c .if1 .r .figure)) ≡ c .if1 .r .figure
   open-read = held (c .if1 .r .figure) (omega (arith, open-small))
@@ -123,10 +120,10 @@ returns c =
     let f = found j in (
       f .reaches,
       record {
-        figure = λ root.
+        figure = λ root second.
             c .adjusted .ensures
-            ∙ ap₂ (λ (z t : ℤ). adjusted z t (getD (j .if1 .left) (i s) 0)) (open-read j ∙ f .figure root) (sign-read s)
-            ∙ closes (tags s) (j .if1 .left) (n s) (f .reaches .sequence) (second s) root (i s) (within s);
+            ∙ ap₂ (λ (z t : ℤ). adjusted z t (getD (j .if1 .left) (i s) 0)) (open-read j ∙ f .figure root second) (sign-read s)
+            ∙ closes (tags s) (j .if1 .left) (n s) (f .reaches .sequence) second root (i s) (within s);
         group = λ h. f .group;
       },
     )

@@ -30,9 +30,9 @@ use Rattle.walk.proofs.search.Statement.{statement}
 use Rattle.walk.proofs.search.Tie as tie
 
 abbrev Inv-loop : tie.InvT-loop
-Inv-loop tags left₀ i n second sign x₀ r₀ j₀ left x r j =
-    ((root : ℕ) → inner tags n second root left (tallyOf r) (getD tags i 0) x j ≡ inner tags n second root left₀ (tallyOf r₀) (getD tags i 0) x₀ j₀)
-    × ((root : ℕ) → Searching (together second) (legAt root second (getD tags i 0) x) (legsFromOn root tags left n second (i + 1)) (legsFromOn root tags left n second j) (r .figure))
+Inv-loop tags left₀ i n sign x₀ r₀ j₀ left x r j =
+    ((root : ℕ) (second : Bool) → inner tags n second root left (tallyOf r) (getD tags i 0) x j ≡ inner tags n second root left₀ (tallyOf r₀) (getD tags i 0) x₀ j₀)
+    × ((root : ℕ) (second : Bool) → Searching (together second) (legAt root second (getD tags i 0) x) (legsFromOn root tags left n second (i + 1)) (legsFromOn root tags left n second j) (r .figure))
     × InSequence n tags left
     × (i < j)
     × (j ≤ n)
@@ -41,15 +41,15 @@ Inv-loop tags left₀ i n second sign x₀ r₀ j₀ left x r j =
     × (r .group ≡ r₀ .group)
 
 abbrev μ-loop : tie.MeasureT-loop
-μ-loop tags left₀ i n second sign x₀ r₀ j₀ left x r j = n - j
+μ-loop tags left₀ i n sign x₀ r₀ j₀ left x r j = n - j
 
 loop-holds : tie.Need-loop-holds Inv-loop μ-loop
 loop-holds c =
     let s = c .before .before .before in
     let a = s .args in
     let q = s .pre .0 .0 in (
-      (λ root. refl),
-      (λ root. searching.start (together (a .second)) (legAt root (a .second) (getD (a .tags .now) (a .i) 0) (getD (a .left .now) (a .i) 0)) (legsFromOn root (a .tags .now) (a .left .now) (a .n) (a .second) (a .i + 1)) _ (s .pre .1 .0 root) (s .pre .1 .1 root)),
+      (λ root second. refl),
+      (λ root second. searching.start (together second) (legAt root second (getD (a .tags .now) (a .i) 0) (getD (a .left .now) (a .i) 0)) (legsFromOn root (a .tags .now) (a .left .now) (a .n) second (a .i + 1)) _ (s .pre .1 .0 root second) (s .pre .1 .1 root second)),
       q,
       omega arith,
       omega (arith, s .pre .0 .1),
@@ -76,14 +76,11 @@ module _ (c : tie.At-loop Inv-loop μ-loop) where
   abbrev tx : ℕ
   tx = getD tags i 0
 
-  abbrev second : Bool
-  second = start .args .second
-
   within : i < n
   within = start .pre .0 .1
 
   figure-small : natAbs (c .loop .r .figure) ≤ 160000
-  figure-small = rw (c .loop .inv .1 0 .figure) (figure-fits tags (c .loop .left) n (c .loop .inv .2) second 0 (seriesIn tags second i) (i + 1))
+  figure-small = rw (c .loop .inv .1 0 false .figure) (figure-fits tags (c .loop .left) n (c .loop .inv .2) false 0 (seriesIn tags false i) (i + 1))
 
   figure-read : toZ w64 (ofZ w64 (c .loop .r .figure)) ≡ c .loop .r .figure
   figure-read = held (c .loop .r .figure) (omega (arith, figure-small))
@@ -123,10 +120,10 @@ module _ (c : tie.Then1 Inv-loop μ-loop) where
 
   -- the leg that is met
   met-within : j < n head
-  met-within = inside (tags head) (head .loop .left) (n head) (head .loop .inv .2) (second head) 0 (i head) (within head) x j (f .figure) (head .loop .inv .1 0) (tests .0) (tests .1) (head .loop .inv .4)
+  met-within = inside (tags head) (head .loop .left) (n head) (head .loop .inv .2) false 0 (i head) (within head) x j (f .figure) (head .loop .inv .1 0 false) (tests .0) (tests .1) (head .loop .inv .4)
 
   all-met : matchedAt (tx head) x (getD (tags head) j 0) y ≡ min x y
-  all-met = meets (tags head) (head .loop .left) (n head) (head .loop .inv .2) (second head) 0 (i head) (within head) x j (f .figure) (head .loop .inv .1 0) (tests .0) (tests .1) (head .loop .inv .3) met-within
+  all-met = meets (tags head) (head .loop .left) (n head) (head .loop .inv .2) false 0 (i head) (within head) x j (f .figure) (head .loop .inv .1 0 false) (tests .0) (tests .1) (head .loop .inv .3) met-within
 
   in-array : j < 16
   in-array = omega (arith, met-within, head .loop .inv .2 .valid .few)
@@ -156,7 +153,7 @@ meet-requires c κs =
     let g = head t in
     let l = g .loop in (
       (l .inv .2, l .inv .3, met-within t, omega (arith, l .inv .6, in-array t, start g .pre .0 .2)),
-      (pos-of-ne-zero (c .before .if2 .taken), matched-again (tx g) (x t) (getD (tags g) (j t) 0) (y t) (m b) (matched-is b), (λ root. l .inv .1 root .figure), tests t .1),
+      (pos-of-ne-zero (c .before .if2 .taken), matched-again (tx g) (x t) (getD (tags g) (j t) 0) (y t) (m b) (matched-is b), (λ root second. l .inv .1 root second .figure), tests t .1),
     )
 
 sub-x : tie.Need-sub-x Inv-loop μ-loop
@@ -175,12 +172,12 @@ loop-again c =
     let k = met-within t in
     let few : y t - m b ≤ 10000 = omega (arith, count-at (tags g) (l .left) (n g) q (l .j) k) in
     let e = c .meet .ensures in
-    let more = note-few (tallyOf (l .r)) (second g) (tx g) (getD (tags g) (l .j) 0) (m b) in (
-      (λ root.
+    let more = note-few (tallyOf (l .r)) (tx g) (getD (tags g) (l .j) 0) (m b) in (
+      (λ root second.
           rw (e .rest)
-          (inner-turn (tags g) (n g) (q .valid) (second g) root (l .left) (tallyOf (l .r)) (tallyOf (c .meet .result)) (tx g) (l .x) (l .j) (m b) (q .full) (tag-at-small (tags g) (n g) (q .valid) (i g) (within g)) k (matched-is b) (e .tally)
-          ∙ l .inv .0 root)),
-      (λ root. rw (e .rest) (met (tags g) (l .left) (n g) q (second g) root (i g) (l .j) (l .x) (m b) (l .inv .3) k (matched-is b) (l .r .figure) (c .meet .result .figure) (l .inv .1 root) (rw (e .rest) at (e .figure root)))),
+          (inner-turn (tags g) (n g) (q .valid) second root (l .left) (tallyOf (l .r)) (tallyOf (c .meet .result)) (tx g) (l .x) (l .j) (m b) (q .full) (tag-at-small (tags g) (n g) (q .valid) (i g) (within g)) k (matched-is b) (e .tally)
+          ∙ l .inv .0 root second)),
+      (λ root second. rw (e .rest) (met (tags g) (l .left) (n g) q second root (i g) (l .j) (l .x) (m b) (l .inv .3) k (matched-is b) (l .r .figure) (c .meet .result .figure) (l .inv .1 root second) (rw (e .rest) at (e .figure root second)))),
       rw (e .rest) (sequence-set (tags g) (l .left) (n g) q (l .j) (y t - m b) k few),
       omega arith,
       omega arith,
@@ -204,10 +201,10 @@ loop-again-2 c =
     let k = met-within t in
     let none : y t ≡ 0 = omega (arith, b .smaller .ensures, c .if2 .left, tests t .0) in
     let unmet : matchedAt (tx g) (l .x) (getD (tags g) (l .j) 0) (y t) ≡ 0 = sym (matched-is b) ∙ c .if2 .left in (
-      (λ root.
-          inner-skip (tags g) (n g) (q .valid) (second g) root (l .left) (tallyOf (l .r)) (tx g) (l .x) (l .j) (q .full) (tag-at-small (tags g) (n g) (q .valid) (i g) (within g)) k unmet
-          ∙ l .inv .0 root),
-      (λ root. passed (tags g) (l .left) (n g) q (second g) root (i g) (within g) (l .x) (l .j) (l .r .figure) (l .inv .1 root) k none),
+      (λ root second.
+          inner-skip (tags g) (n g) (q .valid) second root (l .left) (tallyOf (l .r)) (tx g) (l .x) (l .j) (q .full) (tag-at-small (tags g) (n g) (q .valid) (i g) (within g)) k unmet
+          ∙ l .inv .0 root second),
+      (λ root second. passed (tags g) (l .left) (n g) q second root (i g) (within g) (l .x) (l .j) (l .r .figure) (l .inv .1 root second) k none),
       q,
       omega arith,
       omega arith,
@@ -236,12 +233,12 @@ returns c =
     let q = l .inv .2 in
     let stopped = ended c in (
       record {
-        legs = λ root. inner-legs (tags g) (n g) (q .valid) (second g) root (a .left .now) (l .left) (start g .pre .0 .0 .full) (q .full) (tallyOf (a .s)) (tallyOf (l .r)) (l .x) (i g) (l .j) (within g) (l .inv .4) (searching.stop (together (second g)) (l .inv .1 root) stopped) (l .inv .0 root);
-        tally = λ root. inner-tally (tags g) (n g) (q .valid) (second g) root (a .left .now) (l .left) (start g .pre .0 .0 .full) (q .full) (tallyOf (a .s)) (tallyOf (l .r)) (l .x) (i g) (l .j) (within g) (l .inv .4) (searching.stop (together (second g)) (l .inv .1 root) stopped) (l .inv .0 root);
+        legs = λ root second. inner-legs (tags g) (n g) (q .valid) second root (a .left .now) (l .left) (start g .pre .0 .0 .full) (q .full) (tallyOf (a .s)) (tallyOf (l .r)) (l .x) (i g) (l .j) (within g) (l .inv .4) (searching.stop (together second) (l .inv .1 root second) stopped) (l .inv .0 root second);
+        tally = λ root second. inner-tally (tags g) (n g) (q .valid) second root (a .left .now) (l .left) (start g .pre .0 .0 .full) (q .full) (tallyOf (a .s)) (tallyOf (l .r)) (l .x) (i g) (l .j) (within g) (l .inv .4) (searching.stop (together second) (l .inv .1 root second) stopped) (l .inv .0 root second);
         few = omega (arith, l .inv .6, l .inv .4, q .valid .few);
         sequence = sequence-set (tags g) (l .left) (n g) q (i g) (l .x) (within g) (l .inv .5);
       },
-      (λ root. l .inv .1 root .figure ∙ ap (openContracts (together (second g)) (seriesIn (tags g) (second g) (i g))) (sym (put-before (tags g) (l .left) (n g) q (second g) root (i g) (l .x) (within g))), l .inv .7),
+      (λ root second. l .inv .1 root second .figure ∙ ap (openContracts (together second) (seriesIn (tags g) second (i g))) (sym (put-before (tags g) (l .left) (n g) q second root (i g) (l .x) (within g))), l .inv .7),
     )
 
 pub search-spec : {M : Type 1} → statement M
