@@ -1,7 +1,8 @@
 /*
  * Holds the order check to the answers of the files in cases/, to what holds of every answer, and
- * to rules of this test's own: for calendars to the class, for orders with shares to the number.
- * Exit status 1 and a message on the first failure, one line with the number of checks otherwise.
+ * to rules of this test's own: calendars to number, class and pairings, orders with shares to the
+ * number. Exit status 1 and a message on the first failure, one line with the number of checks
+ * otherwise.
  */
 #define _DEFAULT_SOURCE /* for lent_bytes.h */
 #include "answers.h"
@@ -213,17 +214,45 @@ static uint64_t class_of_calendar(const struct made_order *m) {
     return is_debit ? OPC_CLASS_DEBIT : is_credit ? OPC_CLASS_CREDIT : OPC_CLASS_UNDETERMINED;
 }
 
-/* The class, and the number that 23 gives by it; 22, which comes before it, is switched off. */
+/* Each leg meets the latest walked of those that are open on the other side: they lie on a stack.
+ */
+static uint64_t pairings_of_calendar(const struct made_order *m) {
+    int64_t open[OPC_MOST_LEGS];
+    size_t height = 0;
+    uint64_t pairings = 0;
+    for (size_t leg = legs_of(m); leg > 0; leg--) {
+        int64_t left = count_of(m, leg - 1);
+        while (left != 0 && height > 0 && (left > 0) != (open[height - 1] > 0)) {
+            int64_t rest = left + open[height - 1];
+            bool stays_open = rest != 0 && (rest > 0) != (left > 0);
+            pairings++;
+            if (stays_open) {
+                open[height - 1] = rest;
+                left = 0;
+            } else {
+                height--;
+                left = rest;
+            }
+        }
+        if (left != 0) {
+            open[height++] = left;
+        }
+    }
+    return pairings;
+}
+
+/* Check 23 gives the number, by the class; 22, which comes before it, is switched off. */
 static void test_calendars(void) {
     uint64_t seen = 0;
     for (size_t i = 0; i < RANDOM_CASES; i++) {
         struct made_order m = any_calendar();
-        uint64_t class_ = class_of_calendar(&m);
+        uint64_t class_ = class_of_calendar(&m), pairings = pairings_of_calendar(&m);
         uint64_t turned = m.price > 0 ? OPC_CLASS_CREDIT : OPC_CLASS_DEBIT;
         m.settings.check_22 = 0;
         shuffle_legs(&m);
         struct opc_answer a = answer(&m);
         expect(a.class_ == class_, "another class than a calendar's sums have");
+        expect(a.pairings == pairings, "other pairings than a stack of open legs makes");
         expect(a.number == (class_ == turned ? OPC_CHECK_DEBIT_CREDIT : OPC_ACCEPTED),
                "another number than 23 by a calendar's class");
         seen |= only(class_);

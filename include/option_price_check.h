@@ -42,8 +42,9 @@ extern "C" {
 #define OPC_STATIC_ASSERT _Static_assert
 #endif
 
-/* Of this face: one more with each change of an entry, a struct, a number or a limit. */
-#define OPC_VERSION 4
+/* Of this face: one more with each change of an entry, its answers too, a struct, a number or a
+ * limit. */
+#define OPC_VERSION 5
 
 /* What a number says of an order, a message, a quote or a symbol. */
 enum opc_outcome {

@@ -1,5 +1,5 @@
-// Some of document 01's examples through the order check on slices: number, class, shape and pairings of each. The file
-// cases/papers.desk has all of them.
+// Some of document 01's examples, T10 as document 02's S-5 has it, through the order check on slices: number, class,
+// shape and pairings of each. The file cases/papers.desk has all of them.
 use libc::STDOUT_FILENO;
 use order_check::check_slices;
 use rules::OrderAnswer;
@@ -77,11 +77,25 @@ fn show_sold(case: &[u8], price: i64) {
     );
 }
 
+fn show_calendar(case: &[u8], price: i64) {
+    show(
+        case,
+        b"XYZ   270319C00020000XYZ   270618C00020000XYZ   270917C00020000",
+        b"\x01\0\0\0\0\0\0\0\xff\xff\xff\xff\xff\xff\xff\xff\x01\0\0\0\0\0\0\0",
+        price,
+    );
+}
+
 fn main() {
     show_butterfly(b"T1, a butterfly sold that pays 15.00", 15000);
     show_butterfly(b"the same, and 15.00 are received", -15000);
     show_butterfly(b"the same, and 10.00 are received", -10000);
     show_sold(b"T7, two calls sold for 0.020", -20);
     show_sold(b"T7, two calls sold for 0.019", -19);
+    show_calendar(
+        b"T10, March and September bought and June sold, for 1.00",
+        1000,
+    );
+    show_calendar(b"the same, and 1.00 is received", -1000);
     show(b"no leg", b"", b"", 1000);
 }

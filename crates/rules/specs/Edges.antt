@@ -109,6 +109,10 @@ shapes =
     ∷ (plain (minus 5000) (puts (minus 3) 20 ∷ []), answers 0 2 0 0)
     ∷ []
 
+-- one bought, one sold and one bought, for 1.00
+abbrev calendar : SymbolParts → SymbolParts → SymbolParts → OrderAnswer
+calendar p q r = plain (pos 1000) (lentOf (pos 1) p ∷ lentOf (minus 1) q ∷ lentOf (pos 1) r ∷ [])
+
 -- the expiry's order: by year, then month, then day; a near buy and a far sell are a credit
 abbrev expiries : List (OrderAnswer × OrderAnswer)
 expiries =
@@ -116,6 +120,10 @@ expiries =
     ∷ (plain (minus 1000) (calls (pos 1) 20 ∷ lentOf (minus 1) (parts xyz 2027 1 22 67 20000) ∷ []), answers 0 2 0 1)
     ∷ (plain (minus 1000) (lentOf (pos 1) (parts xyz 2027 1 31 67 20000) ∷ lentOf (minus 1) (parts xyz 2027 2 1 67 20000) ∷ []), answers 0 2 0 1)
     ∷ (plain (minus 1000) (lentOf (pos 1) (parts xyz 2027 12 31 67 20000) ∷ lentOf (minus 1) (parts xyz 2028 1 1 67 20000) ∷ []), answers 0 2 0 1)
+    -- the second walk begins at the farthest by the same order: the middle one, sold, meets the buy that expires later
+    ∷ (calendar (parts xyz 2027 12 31 67 20000) (parts xyz 2028 6 30 67 20000) (parts xyz 2029 1 1 67 20000), answers 0 1 0 1)
+    ∷ (calendar (parts xyz 2027 1 31 80 20000) (parts xyz 2027 6 15 80 20000) (parts xyz 2027 12 1 80 20000), answers 0 1 0 1)
+    ∷ (calendar (parts xyz 2027 1 1 67 20000) (parts xyz 2027 1 2 67 20000) (parts xyz 2027 1 3 67 20000), answers 0 1 0 1)
     ∷ []
 
 -- nine market values

@@ -83,7 +83,7 @@ calls n dollars = lent n 67 1 15 dollars
 abbrev pub puts : ℤ → ℕ → Lent
 puts n dollars = lent n 80 1 15 dollars
 
--- An order and its expected answer. Document 01 gives the number, and the class or the pairings where it names them; the other fields, root, dates and T8's strike and price are added here.
+-- An order and its expected answer. Document 01 gives the number, and the class or the pairings where it names them; the other fields, root, dates, and strike and price of T8 and T10 are added here.
 pub record Case : Type 0 where
   pub european : ℕ
   pub price : ℤ
@@ -127,7 +127,7 @@ cases =
     ∷ case (minus 1000) (lent (pos 1) 67 3 19 20 ∷ lent (minus 1) 67 6 18 20 ∷ lent (pos 1) 67 9 17 20 ∷ []) (answers 23 1 0 1)
     ∷ []
 
--- What T1 to T8 and T10 do not tell apart: where each walk begins for calls and for puts, and which open contracts come first.
+-- What T1 to T8 and T10 do not tell apart: where the first walk begins, where the second begins for puts, and which open contracts come first.
 abbrev pub directions : List Case
 directions =
     -- calls from the lowest strike up: the buy at 30 meets the sell at 20
@@ -136,7 +136,7 @@ directions =
     ∷ case (minus 1000) (puts (pos 1) 30 ∷ puts (minus 1) 20 ∷ puts (minus 1) 40 ∷ []) (answers 0 2 0 1)
     -- the latest-walked strike first: the sells at 30 meet the buy at 20, then one at 10
     ∷ case (pos 1000) (calls (pos 2) 10 ∷ calls (pos 1) 20 ∷ calls (minus 2) 30 ∷ []) (answers 0 1 0 2)
-    -- calls and puts alike from the farthest expiry to the nearest: the sale in June meets the buy in September, and T10's opposite is a credit
+    -- puts too from the farthest expiry to the nearest: the sale in June meets the buy in September; T10's opposite is a credit
     ∷ case (pos 1000) (lent (pos 1) 80 3 19 20 ∷ lent (minus 1) 80 6 18 20 ∷ lent (pos 1) 80 9 17 20 ∷ []) (answers 0 1 0 1)
     ∷ case (minus 1000) (lent (minus 1) 67 3 19 20 ∷ lent (pos 1) 67 6 18 20 ∷ lent (minus 1) 67 9 17 20 ∷ []) (answers 0 2 0 1)
     -- the latest-walked expiry first: the sales in March meet the buy in June, then one in September

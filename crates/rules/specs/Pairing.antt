@@ -1,4 +1,4 @@
--- Document 01, Pairing.
+-- Document 01, Pairing, with document 02's S-5.
 use mathlib.Core.List.{List, [], _∷_, _++_}
 use mathlib.Core.Bool.{Bool, cond, not, _&&_}
 use Prim.Native.Nat.{ℕ, zero, suc, _-_, min}

@@ -101,6 +101,19 @@ module _ (tags left : List ℕ) (n : ℕ) (q : InSequence n tags left) where
   pub count-at : (j : ℕ) → j < n → getD left j 0 ≤ 10000
   count-at j h = rw (← getD-take n left j 0 h) (all-at (λ s. s ≤ 10000) (take n left) (q .counts) j (omega (arith, length-take-le n left (omega (arith, q .full, q .valid .few)))))
 
+  -- the tags behind one have greater keys
+  here : (i : ℕ) → i < n → drop i (take n tags) ≡ getD tags i 0 ∷ drop (i + 1) (take n tags)
+  here i h = finding.step 0 tags n (omega (arith, q .valid .few, q .valid .full)) i h
+
+  above : (i j : ℕ) → i < n → i < j → All (λ u. getD tags i 0 / 2 < u / 2) (drop j (take n tags))
+  above i j h l =
+      let place : i + 1 + (j - (i + 1)) ≡ j = omega arith in
+      let a = (rw (here i h) at (each-two-drop (λ a b. a / 2 < b / 2) i (take n tags) (q .rising))) .0 in
+      rw place at (rw (drop-drop (j - (i + 1)) (i + 1) (take n tags)) at (all-drop (λ u. getD tags i 0 / 2 < u / 2) (j - (i + 1)) (drop (i + 1) (take n tags)) a))
+
+  pub rises : (i j : ℕ) → i < j → j < n → getD tags i 0 / 2 < getD tags j 0 / 2
+  rises i j l k = (rw (here j k) at (above i j (omega arith) l)) .0
+
 module _ (tags left : List ℕ) (n : ℕ) (q : InSequence n tags left) (second : Bool) (root : ℕ) where
   fits : n ≤ 16
   fits = q .valid .few
@@ -129,22 +142,10 @@ module _ (tags left : List ℕ) (n : ℕ) (q : InSequence n tags left) (second :
 
   -- ---- groups
 
-  here : (i : ℕ) → i < n → drop i (take n tags) ≡ getD tags i 0 ∷ drop (i + 1) (take n tags)
-  here i h = finding.step 0 tags n (omega (arith, fits, q .valid .full)) i h
-
-  above : (i j : ℕ) → i < n → i < j → All (λ u. getD tags i 0 / 2 < u / 2) (drop j (take n tags))
-  above i j h l =
-      let place : i + 1 + (j - (i + 1)) ≡ j = omega arith in
-      let a = (rw (here i h) at (each-two-drop (λ a b. a / 2 < b / 2) i (take n tags) (q .rising))) .0 in
-      rw place at (rw (drop-drop (j - (i + 1)) (i + 1) (take n tags)) at (all-drop (λ u. getD tags i 0 / 2 < u / 2) (j - (i + 1)) (drop (i + 1) (take n tags)) a))
-
-  pub rises : (i j : ℕ) → i < j → j < n → getD tags i 0 / 2 < getD tags j 0 / 2
-  rises i j l k = (rw (here j k) at (above i j (omega arith) l)) .0
-
   pub lined : (i j : ℕ) → i < n → i < j → Lined (together second) (seriesIn tags second i) (legsFromOn root tags left n second j)
   lined i j h l =
       rw (from j)
-      (lined-tags root second (getD tags i 0) (tag-at-small tags n (q .valid) i h) (drop j (take n tags)) (drop j (take n left)) (above i j h l) (each-two-drop (λ a b. a / 2 < b / 2) j (take n tags) (q .rising)) (all-drop (λ u. u < 40000000000000000) j (take n tags) (q .valid .small)))
+      (lined-tags root second (getD tags i 0) (tag-at-small tags n (q .valid) i h) (drop j (take n tags)) (drop j (take n left)) (above tags left n q i j h l) (each-two-drop (λ a b. a / 2 < b / 2) j (take n tags) (q .rising)) (all-drop (λ u. u < 40000000000000000) j (take n tags) (q .valid .small)))
 
   -- ---- bounds
 

@@ -95,7 +95,7 @@ returns c =
           ap tallyOf r
           ∙ counted-more (t .debits) (t .credits) debit
           ∙ some-noted (tallyOf t) debit (m s) (s .pre .1 .0)
-          ∙ note-rising (tallyOf t) (tx s) (getD (tags s) (at s) 0) (m s) (rises (tags s) (left s) (n s) (sequence s) false 0 (i s) (at s) (s .pre .0 .1) (s .pre .0 .2));
+          ∙ note-rising (tallyOf t) (tx s) (getD (tags s) (at s) 0) (m s) (rises (tags s) (left s) (n s) (sequence s) (i s) (at s) (s .pre .0 .1) (s .pre .0 .2));
       figure = λ root second.
           ap (λ (z : Step). z .figure) r
           ∙ ap (λ (z : ℤ). adjusted z (sign (isBought (tx s))) (m s)) (counts s root second)
