@@ -183,16 +183,19 @@ static void test_random_valid(void) {
 
 /* ---- calendars ---- */
 
-/* Calls or puts of one strike, at expiries that rise. */
+/* Calls or puts of one strike, at expiries that rise by days, by months or by years. */
 static struct made_order any_calendar(void) {
+    static const uint64_t steps[] = {3, 3 * 28, 3 * 12 * 28};
     struct made_order m = no_legs();
     size_t legs = between(2, OPC_MOST_LEGS);
-    uint64_t style = below(4), year = between(0, 10), strike = between(1, 99999999);
+    uint64_t style = below(4), strike = between(1, 99999999);
+    uint64_t day = below(40 * 12 * 28); /* in months of 28 days, which every month has */
     char option_type = one_in(2) ? 'C' : 'P';
     while (legs_of(&m) < legs) {
-        uint64_t yymmdd = year * 10000 + between(1, 12) * 100 + between(1, 28);
-        add_leg(&m, yymmdd, option_type, strike, random_count(style));
-        year += between(1, 5);
+        uint64_t year = day / (12 * 28), month = day / 28 % 12 + 1;
+        add_leg(&m, year * 10000 + month * 100 + day % 28 + 1, option_type, strike,
+                random_count(style));
+        day += between(1, steps[below(COUNT(steps))]);
     }
     m.price = one_in(2) ? MOST_PRICE : -MOST_PRICE;
     return m;
@@ -214,8 +217,7 @@ static uint64_t class_of_calendar(const struct made_order *m) {
     return is_debit ? OPC_CLASS_DEBIT : is_credit ? OPC_CLASS_CREDIT : OPC_CLASS_UNDETERMINED;
 }
 
-/* Each leg meets the latest walked of those that are open on the other side: they lie on a stack.
- */
+/* Each leg meets the latest walked of those open on the other side: they lie on a stack. */
 static uint64_t pairings_of_calendar(const struct made_order *m) {
     int64_t open[OPC_MOST_LEGS];
     size_t height = 0;

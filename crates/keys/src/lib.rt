@@ -46,7 +46,8 @@ pub fn group_of(tag: u64) -> u64
     tag / 200000000
 }
 
-// The tag of the second walk, from that of the first.
+// The tag of the second walk, from that of the first. Of one strike the nearest expiry, which is walked last, has the
+// least.
 pub fn second_tag(tag: u64) -> u64
     requires { ⌜ tag < 40000000000000000 ⌝ }
     ensures { λ r. ⌜ (r ≡ secondTag tag) × (r < 40000000000000000) ⌝ }
