@@ -16,6 +16,10 @@ enum entry {
     CHECK_FIX_TALLIED,
     CHECK_PAIR,
     CHECK_QUOTE,
+    START_SESSION,
+    CHECK_ORDER_SESSION,
+    CHECK_FIX_SESSION,
+    RELEASE_LOGIN,
     ENTRIES
 };
 
@@ -30,6 +34,8 @@ enum entry {
 /* More than twice as many as there should be. */
 #define MOST_SETTINGS 48
 #define MOST_MARKET_VALUES 24
+#define MOST_LIMITS 72
+#define MOST_SESSION_NUMBERS 400
 
 /* What an entry is handed of one order. */
 struct order {
@@ -67,10 +73,18 @@ struct call {
     uint64_t market[MOST_MARKET_VALUES];
     size_t market_len;
     struct opc_tally tally;
+    /* Of a session: who asks, the limits of a start, and the session as it comes to the call. An
+     * input has an order and a message for the calls after the first. */
+    uint64_t login;
+    uint64_t limits[MOST_LIMITS];
+    size_t limits_len;
+    uint64_t session[MOST_SESSION_NUMBERS];
+    size_t session_len;
 };
 
 static inline bool is_message(const struct call *call) {
-    return call->entry == CHECK_FIX || call->entry == CHECK_FIX_TALLIED;
+    return call->entry == CHECK_FIX || call->entry == CHECK_FIX_TALLIED ||
+           call->entry == CHECK_FIX_SESSION;
 }
 
 static inline bool is_tallied(const struct call *call) {

@@ -1,7 +1,8 @@
 /*
- * The fuzzer's harness. Each input becomes one call of one entry, in the raw or the shaped form.
- * The call is made more than once, from C and through the inline function over structs, with what
- * is lent under watch; every number of every answer is held to the second implementation's.
+ * The fuzzer's harness. Each input becomes one call of one entry, in the raw or the shaped form, or
+ * a sequence of calls over one session. The call is made more than once, from C and through the
+ * inline function over structs, with what is lent under watch; every number of every answer is held
+ * to the second implementation's.
  *
  * A difference prints the call and aborts, so that libFuzzer keeps the input.
  */
@@ -17,10 +18,18 @@
 #define SEEDS_VARIABLE "FUZZ_SEEDS"
 
 static const char *const entry_names[ENTRIES] = {
-    [READ_SYMBOL] = "opc_read_symbol", [WRITE_SYMBOL] = "opc_write_symbol",
-    [CHECK_ORDER] = "opc_check_order", [CHECK_ORDER_TALLIED] = "opc_check_order_tallied",
-    [CHECK_FIX] = "opc_check_fix",     [CHECK_FIX_TALLIED] = "opc_check_fix_tallied",
-    [CHECK_PAIR] = "opc_check_pair",   [CHECK_QUOTE] = "opc_check_quote",
+    [READ_SYMBOL] = "opc_read_symbol",
+    [WRITE_SYMBOL] = "opc_write_symbol",
+    [CHECK_ORDER] = "opc_check_order",
+    [CHECK_ORDER_TALLIED] = "opc_check_order_tallied",
+    [CHECK_FIX] = "opc_check_fix",
+    [CHECK_FIX_TALLIED] = "opc_check_fix_tallied",
+    [CHECK_PAIR] = "opc_check_pair",
+    [CHECK_QUOTE] = "opc_check_quote",
+    [START_SESSION] = "opc_start_session",
+    [CHECK_ORDER_SESSION] = "opc_check_order_session",
+    [CHECK_FIX_SESSION] = "opc_check_fix_session",
+    [RELEASE_LOGIN] = "opc_release_login",
 };
 
 /* ---- Counting. ---- */
@@ -159,6 +168,29 @@ static void print_symbol_call(const struct call *call) {
             p->root, p->year, p->month, p->day, p->option_type, p->strike, call->out_len);
 }
 
+/* The session is as it comes to the call; printing changes nothing of it. */
+static void print_session_call(const struct call *call) {
+    struct opc_order order = own_order(&call->order);
+    struct opc_fix fix = fix_of(call, call->message);
+    struct second_terms terms = terms_of(call);
+    uint64_t numbers[MOST_SESSION_NUMBERS];
+    struct second_session session = {.numbers = numbers, .len = call->session_len};
+    memcpy(numbers, call->session, sizeof numbers);
+    switch (call->entry) {
+    case START_SESSION:
+        second_print_start(call->limits, call->limits_len, &session);
+        break;
+    case CHECK_ORDER_SESSION:
+        second_print_order_session(call->login, &order, &terms, &session);
+        break;
+    case CHECK_FIX_SESSION:
+        second_print_fix_session(call->login, &fix, &terms, &session);
+        break;
+    default:
+        second_print_release(call->login, &session);
+    }
+}
+
 static void print_call(const struct call *call) {
     struct opc_order order = own_order(&call->order);
     struct opc_fix fix = fix_of(call, call->message);
@@ -181,8 +213,12 @@ static void print_call(const struct call *call) {
     case CHECK_QUOTE:
         second_print_quote(&quote, &terms);
         break;
-    default:
+    case READ_SYMBOL:
+    case WRITE_SYMBOL:
         print_symbol_call(call);
+        break;
+    default:
+        print_session_call(call);
     }
 }
 
@@ -225,6 +261,8 @@ static struct lent lent_contra_counts;
 static struct lent lent_message;
 static struct lent lent_settings;
 static struct lent lent_market;
+static struct lent lent_limits;
+static struct lent lent_session;
 
 /* What lent numbers hold before a call: two values, so that one which is not set shows. */
 static const uint64_t unset[2] = {UINT64_C(0xdeadbeefdeadbeef), UINT64_C(0x0123456789abcdef)};
@@ -267,11 +305,21 @@ static const void *lend_market(const struct call *call, bool last) {
     return lend(&lent_market, call->market, size, last, is_null(call));
 }
 
+static const void *lend_limits(const struct call *call, bool last) {
+    size_t size = call->limits_len * sizeof call->limits[0];
+    return lend(&lent_limits, call->limits, size, last, is_null(call));
+}
+
+static void *lend_session(const struct call *call, bool last) {
+    size_t size = call->session_len * sizeof call->session[0];
+    return lend(&lent_session, call->session, size, last, is_null(call));
+}
+
 /* Of every slice, so of those that this call was not lent too. */
 static void expect_kept(const struct call *call) {
     bool kept = is_kept(&lent_symbols) && is_kept(&lent_counts) && is_kept(&lent_contra_symbols) &&
                 is_kept(&lent_contra_counts) && is_kept(&lent_message) && is_kept(&lent_settings) &&
-                is_kept(&lent_market);
+                is_kept(&lent_market) && is_kept(&lent_limits) && is_kept(&lent_session);
     expect(kept, call, "a lent slice, or what is around it, was changed");
 }
 
@@ -345,8 +393,7 @@ static void write_once(const struct call *call, bool last, bool inlined) {
     uint64_t second[2];
     second[0] = second_write_symbol(p, before, call->out_len, &second[1]);
     expect_equal(call, "the length and number of writing", answer, second, sizeof second);
-    size_t at = last ? WATCHED - call->out_len : 0;
-    memcpy(lent_symbols.copy + at, before, call->out_len);
+    expect_in(&lent_symbols, before, call->out_len);
     expect(is_kept(&lent_symbols), call, "the bytes written, or those around them");
     if (inlined) {
         count_answer(call, answer[1]);
@@ -670,6 +717,182 @@ static void try_tallied(const struct call *call) {
     expect_equal(&turned, "the tally in another sequence", &tally, &second_tally, sizeof tally);
 }
 
+/* ---- Sessions. ---- */
+
+/* The answer of a start or a release. */
+static struct opc_answer number_alone(uint64_t number) {
+    return (struct opc_answer){.number = number};
+}
+
+static struct opc_answer session_directly(const struct call *call, bool last) {
+    struct lent_numbers lent = lend_numbers(unset[last]);
+    uint64_t *session = lend_session(call, last);
+    size_t len = call->session_len;
+    uint64_t number;
+    switch (call->entry) {
+    case START_SESSION:
+        calls[call->entry]++;
+        number = opc_start_session(lend_limits(call, last), call->limits_len, session, len);
+        return number_alone(number);
+    case RELEASE_LOGIN:
+        calls[call->entry]++;
+        return number_alone(opc_release_login(call->login, session, len));
+    case CHECK_FIX_SESSION:
+        number =
+            opc_check_fix_session(call->login, FIX_OF(call, last), session, len, ANSWER_IN(&lent));
+        break;
+    default:
+        number = opc_check_order_session(call->login, ORDER_OF(call, last), session, len,
+                                         ANSWER_IN(&lent));
+    }
+    expect_guards(call, &lent);
+    return answer_of(number, &lent);
+}
+
+static struct opc_answer arrived_inlined(const struct call *call, bool last,
+                                         struct opc_session *session) {
+    const struct opc_settings *settings = lend_settings(call, last);
+    const struct opc_market *market = lend_market(call, last);
+    if (is_message(call)) {
+        struct opc_fix fix = fix_of(call, lend_message(call, last));
+        return opc_answer_fix_session(call->login, &fix, settings, market, session);
+    }
+    struct opc_order order =
+        order_of(&call->order, lend_symbols(call, last), lend_counts(call, last));
+    return opc_answer_order_session(call->login, &order, settings, market, session);
+}
+
+/* Where there are structs; otherwise directly. */
+static struct opc_answer session_inlined(const struct call *call, bool last) {
+    bool is_start = call->entry == START_SESSION, is_release = call->entry == RELEASE_LOGIN;
+    bool has_own = is_release || (is_start ? call->limits_len == OPC_LOGINS : has_structs(call));
+    if (!has_own || call->session_len != OPC_SESSION_COUNT) {
+        return session_directly(call, last);
+    }
+    struct opc_session *session = lend_session(call, last);
+    if (!is_start && !is_release) {
+        return arrived_inlined(call, last, session);
+    }
+    calls[call->entry]++;
+    return number_alone(is_start ? opc_answer_start(lend_limits(call, last), session)
+                                 : opc_answer_release(call->login, session));
+}
+
+/* Leaves the session as it should be after the call. */
+static struct opc_answer session_second(const struct call *call, uint64_t *after) {
+    struct opc_order order = own_order(&call->order);
+    struct opc_fix fix = fix_of(call, call->message);
+    struct second_terms terms = terms_of(call);
+    struct second_session session = {.numbers = after, .len = call->session_len};
+    switch (call->entry) {
+    case START_SESSION:
+        return number_alone(second_start_session(call->limits, call->limits_len, &session));
+    case RELEASE_LOGIN:
+        return number_alone(second_release_login(call->login, &session));
+    case CHECK_FIX_SESSION:
+        return second_check_fix_session(call->login, &fix, &terms, &session);
+    default:
+        return second_check_order_session(call->login, &order, &terms, &session);
+    }
+}
+
+/* Every number of the session that was lent, and all that is around it. */
+static void expect_session(const struct call *call, const uint64_t *expected) {
+    uint64_t given[MOST_SESSION_NUMBERS];
+    size_t size = call->session_len * sizeof given[0];
+    memcpy(given, lent_session.watched + lent_session.before, size);
+    for (size_t i = 0; i < call->session_len; i++) {
+        if (given[i] != expected[i]) {
+            fprintf(stderr, "  login %zu, number %zu\n", i / LOGIN_NUMBERS, i % LOGIN_NUMBERS);
+            expect_equal(call, "the session after it", &given[i], &expected[i], sizeof given[i]);
+        }
+    }
+    expect_in(&lent_session, expected, size);
+    expect_kept(call);
+}
+
+/* One call, held to the second implementation; the session goes on from it. */
+static struct opc_answer ask_in_session(struct call *call, bool last, bool inlined) {
+    uint64_t after[MOST_SESSION_NUMBERS];
+    memcpy(after, call->session, sizeof after);
+    struct opc_answer second = session_second(call, after);
+    struct opc_answer answer = inlined ? session_inlined(call, last) : session_directly(call, last);
+    expect_equal(call, "the answer in a session", &answer, &second, sizeof answer);
+    expect_session(call, after);
+    memcpy(call->session, after, sizeof after);
+    return answer;
+}
+
+static bool is_of_order(const struct call *call) {
+    return call->entry == CHECK_ORDER_SESSION || call->entry == CHECK_FIX_SESSION;
+}
+
+/* An order that is not turned away gets what it gets without a session. */
+static void count_in_session(const struct call *call, const struct opc_answer *answer) {
+    uint64_t number = answer->number;
+    if (!is_of_order(call)) {
+        count_answer(call, number);
+        return;
+    }
+    count_order(call, answer);
+    if (number != OPC_BAD_LOGIN && number != OPC_BAD_TALLY && number != OPC_RESTRICTED_LOGIN) {
+        struct opc_answer alone = check_inlined(call);
+        expect_equal(call, "the answer with and without a session", answer, &alone, sizeof alone);
+    }
+}
+
+/* The same order at the opposite price, or with its slices or its message cut short. */
+static void change_order(struct call *call, uint8_t how) {
+    if (how < 160) {
+        call->order.price = (int64_t)(0 - (uint64_t)call->order.price);
+    } else if (call->order.counts_len > 0 && call->message_len > 0) {
+        call->order.counts_len--;
+        call->message_len--;
+    }
+}
+
+/* The next call: any of the four, by some login. */
+static void next_call(struct input *in, struct call *call) {
+    static const enum entry entries[] = {
+        CHECK_ORDER_SESSION, CHECK_ORDER_SESSION, CHECK_ORDER_SESSION, CHECK_ORDER_SESSION,
+        CHECK_ORDER_SESSION, CHECK_FIX_SESSION,   CHECK_FIX_SESSION,   CHECK_FIX_SESSION,
+        CHECK_FIX_SESSION,   CHECK_FIX_SESSION,   RELEASE_LOGIN,       RELEASE_LOGIN,
+        RELEASE_LOGIN,       CHECK_ORDER_SESSION, CHECK_FIX_SESSION,   START_SESSION};
+    call->entry = PICK(in, entries);
+    call->login = shaped_login(in);
+    call->choice = take(in);
+    if (call->choice >= 128 && is_of_order(call)) {
+        change_order(call, call->choice);
+    }
+}
+
+/* The most calls after the first over one session. */
+#define MOST_NEXT_CALLS 12
+
+/* At times a call comes between with a session that is damaged for it alone. */
+static void try_session(struct input *in, const struct call *call) {
+    struct call now = *call;
+    struct opc_answer answer = ask_in_session(&now, true, false);
+    count_in_session(call, &answer);
+    now = *call;
+    ask_in_session(&now, false, false);
+    now = *call;
+    ask_in_session(&now, true, true);
+    for (int i = 0; i < MOST_NEXT_CALLS && in->left > 0; i++) {
+        struct call next = now;
+        next_call(in, &next);
+        bool is_damaged = next.choice % 16 == 15;
+        if (is_damaged) {
+            damage_session(in, next.session);
+        }
+        answer = ask_in_session(&next, (next.choice & 2) == 2, (next.choice & 4) == 4);
+        count_in_session(&next, &answer);
+        if (!is_damaged) {
+            memcpy(now.session, next.session, sizeof now.session);
+        }
+    }
+}
+
 /* ---- Pairs. ---- */
 
 static struct opc_pair_answer pair_directly(const struct call *call, bool last) {
@@ -856,9 +1079,10 @@ int LLVMFuzzerInitialize(int *argc, char ***argv) {
 
 int LLVMFuzzerTestOneInput(const uint8_t *data, size_t size) {
     static const enum entry entries[] = {
-        READ_SYMBOL,         WRITE_SYMBOL,      CHECK_ORDER, CHECK_ORDER, CHECK_ORDER,
-        CHECK_ORDER_TALLIED, CHECK_QUOTE,       CHECK_QUOTE, CHECK_FIX,   CHECK_FIX,
-        CHECK_FIX,           CHECK_FIX_TALLIED, CHECK_PAIR,  CHECK_PAIR};
+        READ_SYMBOL,         WRITE_SYMBOL,      CHECK_ORDER,  CHECK_ORDER, CHECK_ORDER,
+        CHECK_ORDER_TALLIED, CHECK_QUOTE,       CHECK_QUOTE,  CHECK_FIX,   CHECK_FIX,
+        CHECK_FIX,           CHECK_FIX_TALLIED, CHECK_PAIR,   CHECK_PAIR,  START_SESSION,
+        CHECK_ORDER_SESSION, CHECK_FIX_SESSION, RELEASE_LOGIN};
     struct input in = {data, size};
     struct call call;
     memset(&call, 0, sizeof call);
@@ -883,8 +1107,12 @@ int LLVMFuzzerTestOneInput(const uint8_t *data, size_t size) {
     case CHECK_FIX:
         try_check(&call);
         break;
-    default:
+    case CHECK_ORDER_TALLIED:
+    case CHECK_FIX_TALLIED:
         try_tallied(&call);
+        break;
+    default:
+        try_session(&in, &call);
     }
     return 0;
 }

@@ -16,8 +16,9 @@
 #include <sys/mman.h>
 #include <unistd.h>
 
-/* More than the longest slice; a page is longer. */
+/* More than the longest slice but a session, and more than that; a page is longer. */
 #define WATCHED 1280
+#define MOST_WATCHED 3328
 #define AROUND 0xa5
 
 /* A page between two that may not be touched. */
@@ -25,7 +26,9 @@ struct lent {
     uint8_t *page;
     size_t size;
     uint8_t *watched; /* the end of the page that the slice lies at; NULL before the first */
-    uint8_t copy[WATCHED];
+    size_t watched_len;
+    size_t before; /* the watched bytes before the slice */
+    uint8_t copy[MOST_WATCHED];
 };
 
 static inline void make_page(struct lent *lent) {
@@ -47,16 +50,22 @@ static inline void *lend(struct lent *lent, const void *slice, size_t size, bool
     if (lent->page == NULL) {
         make_page(lent);
     }
-    size_t before = last ? WATCHED - size : 0;
-    memset(lent->copy, AROUND, WATCHED);
-    memcpy(lent->copy + before, slice, size);
-    lent->watched = last ? lent->page + lent->size - WATCHED : lent->page;
-    memcpy(lent->watched, lent->copy, WATCHED);
-    return size == 0 && null ? NULL : lent->watched + before;
+    lent->watched_len = size < WATCHED ? WATCHED : MOST_WATCHED;
+    lent->before = last ? lent->watched_len - size : 0;
+    memset(lent->copy, AROUND, lent->watched_len);
+    memcpy(lent->copy + lent->before, slice, size);
+    lent->watched = last ? lent->page + lent->size - lent->watched_len : lent->page;
+    memcpy(lent->watched, lent->copy, lent->watched_len);
+    return size == 0 && null ? NULL : lent->watched + lent->before;
+}
+
+/* What the entry should have made of a slice that it is lent to write in. */
+static inline void expect_in(struct lent *lent, const void *slice, size_t size) {
+    memcpy(lent->copy + lent->before, slice, size);
 }
 
 static inline bool is_kept(const struct lent *lent) {
-    return lent->watched == NULL || memcmp(lent->watched, lent->copy, WATCHED) == 0;
+    return lent->watched == NULL || memcmp(lent->watched, lent->copy, lent->watched_len) == 0;
 }
 
 /* Lent numbers, each between two that must keep their values. */

@@ -86,6 +86,26 @@ static inline void raw_fix(struct input *in, struct call *call) {
     raw_terms(in, call);
 }
 
+/* A byte with the number of bytes before each, so that a session takes few. */
+static inline void raw_short_numbers(struct input *in, uint64_t *numbers, size_t n) {
+    for (size_t i = 0; i < n; i++) {
+        numbers[i] = take_number(in, take(in) % 9u);
+    }
+}
+
+static inline void raw_in_session(struct input *in, struct call *call) {
+    if (is_message(call)) {
+        raw_fix(in, call);
+    } else {
+        raw_order(in, call);
+    }
+    call->login = take_number(in, 8);
+    call->limits_len = take(in) % MOST_LIMITS;
+    raw_short_numbers(in, call->limits, call->limits_len);
+    call->session_len = (size_t)take_number(in, 2) % MOST_SESSION_NUMBERS;
+    raw_short_numbers(in, call->session, call->session_len);
+}
+
 static inline void raw_quote(struct input *in, struct call *call) {
     raw_symbol(in, call);
     call->bid = take_number(in, 8);
@@ -105,9 +125,18 @@ static inline void raw_parts(struct input *in, struct call *call) {
 }
 
 static form *const raw_forms[ENTRIES] = {
-    [READ_SYMBOL] = raw_symbol,        [WRITE_SYMBOL] = raw_parts, [CHECK_ORDER] = raw_order,
-    [CHECK_ORDER_TALLIED] = raw_order, [CHECK_FIX] = raw_fix,      [CHECK_FIX_TALLIED] = raw_fix,
-    [CHECK_PAIR] = raw_pair,           [CHECK_QUOTE] = raw_quote,
+    [READ_SYMBOL] = raw_symbol,
+    [WRITE_SYMBOL] = raw_parts,
+    [CHECK_ORDER] = raw_order,
+    [CHECK_ORDER_TALLIED] = raw_order,
+    [CHECK_FIX] = raw_fix,
+    [CHECK_FIX_TALLIED] = raw_fix,
+    [CHECK_PAIR] = raw_pair,
+    [CHECK_QUOTE] = raw_quote,
+    [START_SESSION] = raw_in_session,
+    [CHECK_ORDER_SESSION] = raw_in_session,
+    [CHECK_FIX_SESSION] = raw_in_session,
+    [RELEASE_LOGIN] = raw_in_session,
 };
 
 #endif

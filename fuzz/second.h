@@ -30,6 +30,22 @@ struct opc_pair_answer second_check_pair(const struct opc_pair *pair,
 struct opc_quote_answer second_check_quote(const struct opc_quote *quote,
                                            const struct second_terms *terms);
 
+/* A session of any length, which a call may change. */
+struct second_session {
+    uint64_t *numbers;
+    size_t len;
+};
+
+uint64_t second_start_session(const uint64_t *limits, size_t limits_len,
+                              const struct second_session *session);
+struct opc_answer second_check_order_session(uint64_t login, const struct opc_order *order,
+                                             const struct second_terms *terms,
+                                             const struct second_session *session);
+struct opc_answer second_check_fix_session(uint64_t login, const struct opc_fix *fix,
+                                           const struct second_terms *terms,
+                                           const struct second_session *session);
+uint64_t second_release_login(uint64_t login, const struct second_session *session);
+
 /* Print a case for a reader, and the line that replays it; a tally is NULL where there is none. */
 void second_print_order(const struct opc_order *order, const struct second_terms *terms,
                         const struct opc_tally *tally);
@@ -37,6 +53,15 @@ void second_print_fix(const struct opc_fix *fix, const struct second_terms *term
                       const struct opc_tally *tally);
 void second_print_pair(const struct opc_pair *pair, const struct second_terms *terms);
 void second_print_quote(const struct opc_quote *quote, const struct second_terms *terms);
+void second_print_start(const uint64_t *limits, size_t limits_len,
+                        const struct second_session *session);
+void second_print_order_session(uint64_t login, const struct opc_order *order,
+                                const struct second_terms *terms,
+                                const struct second_session *session);
+void second_print_fix_session(uint64_t login, const struct opc_fix *fix,
+                              const struct second_terms *terms,
+                              const struct second_session *session);
+void second_print_release(uint64_t login, const struct second_session *session);
 
 /* Writes inputs to begin with, one file each. */
 void second_write_seeds(const char *folder);

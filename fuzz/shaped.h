@@ -8,6 +8,7 @@
 
 #include "call.h"
 #include "messages.h"
+#include "sessions.h"
 
 #define SHAPED_LEGS 17
 #define LARGEST_STRIKE 99999999
@@ -526,6 +527,13 @@ static inline void shaped_fix(struct input *in, struct call *call) {
     shaped_message(in, call);
 }
 
+/* With an order and a message of it, whatever the first call is. */
+static inline void shaped_in_session(struct input *in, struct call *call) {
+    shaped_session(in, call);
+    call->limits_len = shaped_length(in, OPC_LOGINS, MOST_LIMITS);
+    shaped_fix(in, call);
+}
+
 /* The other side of an order: every count has the other sign, and so have price and shares. */
 static inline void turn_side(struct order *order) {
     for (size_t i = 0; i < order->counts_len / OPC_COUNT_LENGTH; i++) {
@@ -673,10 +681,18 @@ static inline void shaped_write(struct input *in, struct call *call) {
 }
 
 static form *const shaped_forms[ENTRIES] = {
-    [READ_SYMBOL] = shaped_read,  [WRITE_SYMBOL] = shaped_write,
-    [CHECK_ORDER] = shaped_order, [CHECK_ORDER_TALLIED] = shaped_order,
-    [CHECK_FIX] = shaped_fix,     [CHECK_FIX_TALLIED] = shaped_fix,
-    [CHECK_PAIR] = shaped_pair,   [CHECK_QUOTE] = shaped_quote,
+    [READ_SYMBOL] = shaped_read,
+    [WRITE_SYMBOL] = shaped_write,
+    [CHECK_ORDER] = shaped_order,
+    [CHECK_ORDER_TALLIED] = shaped_order,
+    [CHECK_FIX] = shaped_fix,
+    [CHECK_FIX_TALLIED] = shaped_fix,
+    [CHECK_PAIR] = shaped_pair,
+    [CHECK_QUOTE] = shaped_quote,
+    [START_SESSION] = shaped_in_session,
+    [CHECK_ORDER_SESSION] = shaped_in_session,
+    [CHECK_FIX_SESSION] = shaped_in_session,
+    [RELEASE_LOGIN] = shaped_in_session,
 };
 
 #endif

@@ -13,15 +13,21 @@ static inline void print_heading(void) {
            "seen", "refused", "accepted", "rejected");
 }
 
-/* Of a refusal there is no class, shape or number of pairings. */
-static inline void print_columns(const struct opc_answer *a, const struct opc_tally *t) {
-    printf("  %2" PRIu64 " %-17s", a->number, number_name(a->number));
+/* A number without class, shape and number of pairings: of a refusal, and of what is no order. */
+static inline void print_number(uint64_t number) {
+    printf("  %2" PRIu64 " %-17s  %-12s  %-8s  %8s", number, number_name(number), "-", "-", "-");
+}
+
+static inline void print_answer(const struct opc_answer *a) {
     if (opc_outcome_of(a->number) == OPC_OUTCOME_REFUSED) {
-        printf("  %-12s  %-8s  %8s", "-", "-", "-");
+        print_number(a->number);
     } else {
-        printf("  %-12s  %-8s  %8" PRIu64, class_name(a->class_), shape_name(a->shape),
-               a->pairings);
+        printf("  %2" PRIu64 " %-17s  %-12s  %-8s  %8" PRIu64, a->number, number_name(a->number),
+               class_name(a->class_), shape_name(a->shape), a->pairings);
     }
+}
+
+static inline void print_tally(const struct opc_tally *t) {
     printf("  %7" PRIu64 "  %7" PRIu64 "  %8" PRIu64 "  %8" PRIu64, t->seen, t->refused,
            t->accepted, t->rejected);
 }

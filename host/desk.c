@@ -1,7 +1,7 @@
 /*
- * The checks for a trading desk: reads orders, pairs, messages and quotes, one to a line, and
- * prints the library's verdict on each in words. host/desk.help says how a line is written and what
- * is printed.
+ * The checks for a trading desk: reads orders, pairs, messages and quotes, one to a line, those of
+ * logins in a session too, and prints the library's verdict on each in words. host/desk.help says
+ * how a line is written and what is printed.
  *
  * No rule of the checks is here. What is said of a refusal beside its meaning is learnt by asking
  * the library again: of a leg by itself, at another price, with one field of the terms alone.
@@ -26,12 +26,12 @@ struct given {
 };
 
 /* The orders, those in messages among them, or the quotes that were answered, counted. */
-struct session {
+struct tallied {
     struct opc_tally tally;
     struct given given;
 };
 
-static const struct session fresh_session = {.tally = OPC_FRESH_TALLY};
+static const struct tallied none_tallied = {.tally = OPC_FRESH_TALLY};
 
 /* The pairs that were answered, counted by what passes. */
 struct pairs {
@@ -39,12 +39,20 @@ struct pairs {
     struct given given; /* to either order */
 };
 
+/* The orders and messages of logins, counted in their session: all zeros where none is started. */
+struct logins {
+    struct opc_session session;
+    bool is_started;
+    struct given given;
+};
+
 struct desk {
     struct terms terms;
-    struct session orders, quotes;
+    struct tallied orders, quotes; /* without a login */
     struct pairs pairs;
+    struct logins logins;
     uint64_t line_number;
-    bool all_accepted; /* every order, those of pairs among them, message, quote and set */
+    bool all_accepted; /* every order, those of pairs too, message, quote, set, limits, release */
     bool is_awaited;   /* each answer, by whoever writes the lines */
 };
 
@@ -288,15 +296,18 @@ static void print_given(const struct given *given) {
     }
 }
 
-static void print_session(const char *name, const struct session *session) {
-    const struct opc_tally *tally = &session->tally;
-    if (tally->seen == 0) {
-        return;
-    }
+static void print_tally(const char *name, const struct opc_tally *tally) {
     printf("tally of %s: %" PRIu64 " seen, %" PRIu64 " refused, %" PRIu64 " accepted, %" PRIu64
            " rejected\n",
            name, tally->seen, tally->refused, tally->accepted, tally->rejected);
-    print_given(&session->given);
+}
+
+static void print_tallied(const char *name, const struct tallied *tallied) {
+    if (tallied->tally.seen == 0) {
+        return;
+    }
+    print_tally(name, &tallied->tally);
+    print_given(&tallied->given);
 }
 
 static void print_pairs(const struct pairs *pairs) {
@@ -307,6 +318,46 @@ static void print_pairs(const struct pairs *pairs) {
            " agency order alone, %" PRIu64 " neither\n",
            pairs->seen, pairs->both, pairs->agency_alone, pairs->neither);
     print_given(&pairs->given);
+}
+
+static bool are_some_given(const struct given *given) {
+    uint64_t all = 0;
+    for (size_t i = 0; i < COUNT(given->times); i++) {
+        all += given->times[i];
+    }
+    return all > 0;
+}
+
+static void print_rows(const struct opc_session *session) {
+    printf("  login  limit     seen  refused  accepted  rejected  since release\n");
+    for (size_t i = 0; i < OPC_LOGINS; i++) {
+        const struct opc_login *login = &session->logins[i];
+        const struct opc_tally *tally = &login->tally;
+        printf("  %5zu  %5" PRIu64 "  %7" PRIu64 "  %7" PRIu64 "  %8" PRIu64 "  %8" PRIu64
+               "  %13" PRIu64 "%s\n",
+               i, login->limit, tally->seen, tally->refused, tally->accepted, tally->rejected,
+               login->running, opc_is_restricted(login) ? "  restricted" : "");
+    }
+}
+
+/* All logins together, then a row for each; of orders to no session there are the numbers alone. */
+static void print_logins(const struct logins *logins) {
+    struct opc_tally all = OPC_FRESH_TALLY;
+    if (!logins->is_started && !are_some_given(&logins->given)) {
+        return;
+    }
+    for (size_t i = 0; i < OPC_LOGINS; i++) {
+        const struct opc_tally *tally = &logins->session.logins[i].tally;
+        all.seen += tally->seen;
+        all.refused += tally->refused;
+        all.accepted += tally->accepted;
+        all.rejected += tally->rejected;
+    }
+    print_tally("logins", &all);
+    if (logins->is_started) {
+        print_rows(&logins->session);
+    }
+    print_given(&logins->given);
 }
 
 static void note(struct desk *desk, struct given *given, uint64_t number) {
@@ -321,32 +372,29 @@ static void note(struct desk *desk, struct given *given, uint64_t number) {
 /* A full tally is printed, and the next one begins: no order goes unchecked for it. */
 static void make_room(struct desk *desk) {
     if (desk->orders.tally.seen == OPC_MOST_TALLIED) {
-        print_session("orders", &desk->orders);
-        desk->orders = fresh_session;
+        print_tallied("orders", &desk->orders);
+        desk->orders = none_tallied;
     }
 }
 
-/* The answer's line, up to what is at fault; says whether it is a refusal. */
-static bool print_answer(struct desk *desk, const char *what, const struct opc_answer *answer) {
-    note(desk, &desk->orders.given, answer->number);
-    printf("%" PRIu64 ": %s: ", desk->line_number, what);
+/* The verdict with what a valid order has; what is at fault is printed after it. */
+static void print_answer(struct desk *desk, struct given *given, const struct opc_answer *answer) {
+    note(desk, given, answer->number);
     print_verdict(answer->number, &desk->terms);
-    if (opc_outcome_of(answer->number) == OPC_OUTCOME_REFUSED) {
-        return true;
+    if (opc_outcome_of(answer->number) != OPC_OUTCOME_REFUSED) {
+        printf("; class %s, shape %s, %" PRIu64 " %s", class_name(answer->class_),
+               shape_name(answer->shape), answer->pairings,
+               answer->pairings == 1 ? "pairing" : "pairings");
     }
-    printf("; class %s, shape %s, %" PRIu64 " %s", class_name(answer->class_),
-           shape_name(answer->shape), answer->pairings,
-           answer->pairings == 1 ? "pairing" : "pairings");
-    return false;
 }
 
 static void answer_order(struct desk *desk, const struct opc_order *order) {
     make_room(desk);
     struct opc_answer answer = opc_answer_order_tallied(order, &desk->terms.settings,
                                                         &desk->terms.market, &desk->orders.tally);
-    if (print_answer(desk, "order", &answer)) {
-        print_order_fault(order, answer.number);
-    }
+    printf("%" PRIu64 ": order: ", desk->line_number);
+    print_answer(desk, &desk->orders.given, &answer);
+    print_order_fault(order, answer.number);
     printf("\n");
 }
 
@@ -379,9 +427,9 @@ static void answer_fix(struct desk *desk, const struct opc_fix *fix) {
     make_room(desk);
     struct opc_answer answer = opc_answer_fix_tallied(fix, &desk->terms.settings,
                                                       &desk->terms.market, &desk->orders.tally);
-    if (print_answer(desk, "fix", &answer)) {
-        print_message_fault(fix, answer.number);
-    }
+    printf("%" PRIu64 ": fix: ", desk->line_number);
+    print_answer(desk, &desk->orders.given, &answer);
+    print_message_fault(fix, answer.number);
     printf("\n");
 }
 
@@ -402,6 +450,96 @@ static void answer_quote(struct desk *desk, const struct opc_quote *quote) {
     print_verdict(answer.number, &desk->terms);
     print_quote_fault(quote, answer.number);
     printf("; cancel the resting quote: %s\n", answer.cancel == 0 ? "no" : "yes");
+}
+
+/* ---- logins ---- */
+
+/* The number that a start with one limit for all logins gets. */
+static uint64_t number_of_limit(uint64_t limit) {
+    uint64_t limits[OPC_LOGINS];
+    struct opc_session session;
+    for (size_t i = 0; i < OPC_LOGINS; i++) {
+        limits[i] = limit;
+    }
+    return opc_answer_start(limits, &session);
+}
+
+/* How many limits there are, or else the first login whose limit gets the number by itself. */
+static void print_limits_fault(const struct request *request, uint64_t number) {
+    if (request->limits_len != OPC_LOGINS) {
+        printf(": %zu limits for %d logins", request->limits_len, OPC_LOGINS);
+        return;
+    }
+    for (size_t i = 0; i < OPC_LOGINS; i++) {
+        if (number_of_limit(request->limits[i]) == number) {
+            printf(": login %zu has %" PRIu64, i, request->limits[i]);
+            return;
+        }
+    }
+}
+
+/* The session before ends with its tally. */
+static void answer_limits(struct desk *desk, const struct request *request) {
+    struct logins *logins = &desk->logins;
+    print_logins(logins);
+    *logins = (struct logins){.is_started = false};
+    uint64_t number = opc_start_session(request->limits, request->limits_len,
+                                        (uint64_t *)&logins->session, OPC_SESSION_COUNT);
+    logins->is_started = number == OPC_ACCEPTED;
+    desk->all_accepted = desk->all_accepted && logins->is_started;
+    printf("%" PRIu64 ": limits: ", desk->line_number);
+    /* In terms that are right: it is no field of these that is refused. */
+    print_verdict(number, &first_terms);
+    if (logins->is_started) {
+        printf("; a session is started");
+    } else {
+        print_limits_fault(request, number);
+    }
+    printf("\n");
+}
+
+/* The line's end: why a session is refused, or that this rejection restricts its login. */
+static void end_login_answer(const struct logins *logins, uint64_t login, uint64_t number) {
+    if (number == OPC_BAD_TALLY) {
+        printf(": %s", logins->is_started ? "the session is full" : "no session is started");
+    } else if (opc_outcome_of(number) == OPC_OUTCOME_REJECTED &&
+               opc_is_restricted(&logins->session.logins[login])) {
+        printf("; login %" PRIu64 " is restricted now", login);
+    }
+    printf("\n");
+}
+
+/* An order of a login, or one in a message. */
+static void answer_login(struct desk *desk, const struct request *request) {
+    struct logins *logins = &desk->logins;
+    const struct terms *terms = &desk->terms;
+    const uint64_t login = request->login;
+    bool is_fix = request->kind == REQUEST_LOGIN_FIX;
+    struct opc_answer answer =
+        is_fix ? opc_answer_fix_session(login, &request->fix, &terms->settings, &terms->market,
+                                        &logins->session)
+               : opc_answer_order_session(login, &request->order, &terms->settings, &terms->market,
+                                          &logins->session);
+    printf("%" PRIu64 ": login %" PRIu64 " %s: ", desk->line_number, login,
+           is_fix ? "fix" : "order");
+    print_answer(desk, &logins->given, &answer);
+    if (is_fix) {
+        print_message_fault(&request->fix, answer.number);
+    } else {
+        print_order_fault(&request->order, answer.number);
+    }
+    end_login_answer(logins, login, answer.number);
+}
+
+static void answer_release(struct desk *desk, uint64_t login) {
+    uint64_t number = opc_answer_release(login, &desk->logins.session);
+    desk->all_accepted = desk->all_accepted && number == OPC_ACCEPTED;
+    printf("%" PRIu64 ": release: ", desk->line_number);
+    print_verdict(number, &desk->terms);
+    if (number == OPC_ACCEPTED) {
+        printf("; login %" PRIu64 " is not restricted", login);
+    }
+    end_login_answer(&desk->logins, login, number);
 }
 
 /* ---- settings and market ---- */
@@ -477,6 +615,16 @@ static void answer_request(struct desk *desk, const struct request *request) {
         break;
     case REQUEST_QUOTE:
         answer_quote(desk, &request->quote);
+        break;
+    case REQUEST_LIMITS:
+        answer_limits(desk, request);
+        break;
+    case REQUEST_LOGIN_ORDER:
+    case REQUEST_LOGIN_FIX:
+        answer_login(desk, request);
+        break;
+    case REQUEST_RELEASE:
+        answer_release(desk, request->login);
         break;
     case REQUEST_SET:
         answer_set(desk, request);
@@ -560,9 +708,10 @@ static int answer_file(FILE *file, const char *name, const struct options *optio
         fprintf(stderr, "desk: %s: %s\n", name, strerror(errno));
         return EXIT_TROUBLE;
     }
-    print_session("orders", &desk.orders);
+    print_tallied("orders", &desk.orders);
     print_pairs(&desk.pairs);
-    print_session("quotes", &desk.quotes);
+    print_tallied("quotes", &desk.quotes);
+    print_logins(&desk.logins);
     return !are_read                                  ? EXIT_UNREAD
            : options->is_strict && !desk.all_accepted ? EXIT_NOT_ACCEPTED
                                                       : EXIT_READ;

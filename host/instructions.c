@@ -1,10 +1,12 @@
 /*
  * Calls the entry that its argument names once for each of many valid inputs, all checks switched
- * on, and prints a line for each call: legs and kind of order or quote. The order check gets orders
- * of 1, 2, 4, 8 and 16 legs, the check of pairs each of these with its other side, the check of
- * messages the messages of those of 1, 4 and 16 legs, the tallied checks those of 1 and 16 legs.
- * Those of orders and of pairs then get orders of 1 and 16 legs with shares: "1+shares" for 1.
- * With a second argument, "lengths", the check of messages gets ones with more and more fields to
+ * on, and prints a line for each call: legs and kind of order or quote. The order check, alone and
+ * in a session, gets orders of 1, 2, 4, 8 and 16 legs, the check of pairs each of these with its
+ * other side, the check of messages, alone and in a session, the messages of those of 1, 4 and 16
+ * legs, the tallied checks those of 1 and 16 legs. Those of orders and of pairs then get orders of
+ * 1 and 16 legs with shares: "1+shares" for 1. A session is a right one, in which all 32 logins
+ * have sent orders; it is started and a login released too, which have no legs: "-". With a second
+ * argument, "lengths", the check of messages gets ones with more and more fields to
  * step over, and a line has the bytes in place of the legs. host/measure runs this under callgrind,
  * which counts the instructions of each call.
  */
@@ -12,14 +14,16 @@
 #include "made_orders.h"
 #include "made_pairs.h"
 #include "made_quotes.h"
+#include "made_sessions.h"
 #include "option_price_check.h"
 
 #include <stdlib.h>
 
 #define RANDOM_INPUTS 40
 
-/* Whether the check is lent a tally. */
-static bool tallied;
+/* What the check is lent to count in. */
+enum counted_in { ALONE, TALLIED, IN_SESSION };
+static enum counted_in counted_in;
 
 /* A market in which checks 25 and 26 have a reference and check 21 an underlying. */
 static const struct opc_market quoted = {.phase = OPC_PHASE_OPEN,
@@ -97,25 +101,48 @@ static void expect(bool holds, const char *kind, size_t legs) {
 
 static bool is_valid(uint64_t number) { return opc_outcome_of(number) != OPC_OUTCOME_REFUSED; }
 
+/* A right session: every login has sent orders of each kind, and none is restricted. */
+static struct opc_session used_session(void) {
+    struct opc_session session;
+    for (size_t i = 0; i < OPC_LOGINS; i++) {
+        session.logins[i] = login_with(10 + i, 3 + i, 1000 * (1 + i), 9 + i, i);
+    }
+    return session;
+}
+
+/* Not the first login, nor the last. */
+#define LOGIN 17
+
 static uint64_t number_of_order(const struct made_order *m) {
     struct opc_order order = lend(m);
     struct opc_tally tally = OPC_FRESH_TALLY;
-    struct opc_answer a = tallied
-                              ? opc_answer_order_tallied(&order, &m->settings, &m->market, &tally)
-                              : opc_answer_order(&order, &m->settings, &m->market);
-    return a.number;
+    struct opc_session session = used_session();
+    switch (counted_in) {
+    case TALLIED:
+        return opc_answer_order_tallied(&order, &m->settings, &m->market, &tally).number;
+    case IN_SESSION:
+        return opc_answer_order_session(LOGIN, &order, &m->settings, &m->market, &session).number;
+    default:
+        return opc_answer_order(&order, &m->settings, &m->market).number;
+    }
 }
 
 /* Of the message with the fewest fields. */
 static uint64_t number_of_message(const struct made_order *m) {
     static struct made_message body, message;
     struct opc_tally tally = OPC_FRESH_TALLY;
+    struct opc_session session = used_session();
     write_body(&body, m);
     frame(&message, &body);
     struct opc_fix fix = lend_fix(&message, m);
-    struct opc_answer a = tallied ? opc_answer_fix_tallied(&fix, &m->settings, &m->market, &tally)
-                                  : opc_answer_fix(&fix, &m->settings, &m->market);
-    return a.number;
+    switch (counted_in) {
+    case TALLIED:
+        return opc_answer_fix_tallied(&fix, &m->settings, &m->market, &tally).number;
+    case IN_SESSION:
+        return opc_answer_fix_session(LOGIN, &fix, &m->settings, &m->market, &session).number;
+    default:
+        return opc_answer_fix(&fix, &m->settings, &m->market).number;
+    }
 }
 
 /* Of the order or, where that is accepted, of its other side: 0 where both are. */
@@ -247,37 +274,79 @@ static void check_quotes(void) {
     }
 }
 
+/* Limits that are right, and one that is not, at the end. */
+static void check_starts(void) {
+    struct opc_session session = used_session();
+    uint64_t limits[OPC_LOGINS];
+    for (size_t i = 0; i < OPC_LOGINS; i++) {
+        limits[i] = 1 + i;
+    }
+    expect(opc_answer_start(limits, &session) == OPC_ACCEPTED, "typical", 0);
+    printf("- typical\n");
+    limits[OPC_LOGINS - 1] = 0;
+    expect(opc_answer_start(limits, &session) == OPC_BAD_SETTING, "the last limit 0", 0);
+    printf("- the last limit 0\n");
+}
+
+/* Every login is tested, the last one's numbers too. */
+static void check_releases(void) {
+    struct opc_session session = used_session();
+    expect(opc_answer_release(LOGIN, &session) == OPC_ACCEPTED, "typical", 0);
+    printf("- typical\n");
+    session.logins[OPC_LOGINS - 1].running = 0;
+    session.logins[OPC_LOGINS - 1].limit = 0;
+    expect(opc_answer_release(LOGIN, &session) == OPC_BAD_TALLY, "the last limit 0", 0);
+    printf("- the last limit 0\n");
+}
+
+/* Whether the entry is measured with other inputs than orders, and it was. */
+static bool check_other(const char *entry, const char *what) {
+    static const struct {
+        const char *name, *what;
+        void (*check)(void);
+    } others[] = {
+        {"opc_check_quote", "", check_quotes},
+        {"opc_check_fix", "lengths", check_lengths},
+        {"opc_start_session", "", check_starts},
+        {"opc_release_login", "", check_releases},
+    };
+    for (size_t i = 0; i < COUNT(others); i++) {
+        if (strcmp(entry, others[i].name) == 0 && strcmp(what, others[i].what) == 0) {
+            others[i].check();
+            return true;
+        }
+    }
+    return false;
+}
+
 int main(int argc, char **argv) {
-    static const size_t all[] = {1, 2, 4, 8, 16}, some[] = {1, 4, 16}, least_and_most[] = {1, 16};
+    static const size_t all[] = {1, 2, 4, 8, 16}, some[] = {1, 4, 16}, two[] = {1, 16};
     static const struct {
         const char *name;
         uint64_t (*number_of)(const struct made_order *m);
-        bool tallied;
+        enum counted_in counted_in;
         const size_t *sizes;
         size_t len;
     } entries[] = {
-        {"opc_check_order", number_of_order, false, all, COUNT(all)},
-        {"opc_check_order_tallied", number_of_order, true, least_and_most, COUNT(least_and_most)},
-        {"opc_check_fix", number_of_message, false, some, COUNT(some)},
-        {"opc_check_fix_tallied", number_of_message, true, least_and_most, COUNT(least_and_most)},
-        {"opc_check_pair", number_of_pair, false, all, COUNT(all)},
+        {"opc_check_order", number_of_order, ALONE, all, COUNT(all)},
+        {"opc_check_order_tallied", number_of_order, TALLIED, two, COUNT(two)},
+        {"opc_check_order_session", number_of_order, IN_SESSION, all, COUNT(all)},
+        {"opc_check_fix", number_of_message, ALONE, some, COUNT(some)},
+        {"opc_check_fix_tallied", number_of_message, TALLIED, two, COUNT(two)},
+        {"opc_check_fix_session", number_of_message, IN_SESSION, some, COUNT(some)},
+        {"opc_check_pair", number_of_pair, ALONE, all, COUNT(all)},
     };
     const char *entry = argc >= 2 ? argv[1] : "", *what = argc == 3 ? argv[2] : "";
-    if (strcmp(entry, "opc_check_quote") == 0) {
-        check_quotes();
-        return 0;
-    }
-    if (strcmp(entry, "opc_check_fix") == 0 && strcmp(what, "lengths") == 0) {
-        check_lengths();
+    if (check_other(entry, what)) {
         return 0;
     }
     for (size_t i = 0; i < COUNT(entries); i++) {
         if (strcmp(entry, entries[i].name) == 0) {
             number_of = entries[i].number_of;
-            tallied = entries[i].tallied;
+            counted_in = entries[i].counted_in;
             check_sizes(entries[i].sizes, entries[i].len);
             if (number_of != number_of_message) {
-                check_with_shares(least_and_most, COUNT(least_and_most));
+                check_with_shares(two, COUNT(two));
             }
             return 0;
         }

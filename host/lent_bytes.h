@@ -60,6 +60,16 @@ static inline bool are_kept(const struct lent_bytes *lent) {
     return memcmp(lent->end - lent->len - GUARD, lent->before, GUARD + lent->len) == 0;
 }
 
+/* The same of bytes that an entry may change: of these only the guard before them must stay. */
+static inline void *lend_changeable(struct lent_bytes *lent, const void *bytes, size_t len) {
+    lend_bytes(lent, bytes, len);
+    return lent->end - len;
+}
+
+static inline bool guard_is_kept(const struct lent_bytes *lent) {
+    return memcmp(lent->end - lent->len - GUARD, lent->before, GUARD) == 0;
+}
+
 /* The first `len` numbers of a struct, and a 0 beyond them; NULL where there are none. */
 static inline const uint64_t *lend_numbers(struct lent_bytes *lent, const void *from, size_t size,
                                            size_t len) {

@@ -73,7 +73,8 @@ static void check_all(const struct example *examples, size_t len, struct opc_tal
         struct opc_fix fix = receive(&examples[i], bytes);
         struct opc_answer answer = opc_answer_fix_tallied(&fix, &settings, &market, &tally);
         printf("%-20s", examples[i].about);
-        print_columns(&answer, &tally);
+        print_answer(&answer);
+        print_tally(&tally);
         printf("  %s\n", examples[i].message);
     }
 }

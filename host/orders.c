@@ -117,7 +117,8 @@ static void check_all(const struct example *examples, size_t len, struct opc_tal
         struct opc_order order = order_of(&examples[i], &bytes);
         struct opc_answer answer = opc_answer_order_tallied(&order, &settings, &market, &tally);
         print_order(&examples[i]);
-        print_columns(&answer, &tally);
+        print_answer(&answer);
+        print_tally(&tally);
         printf("\n");
     }
 }

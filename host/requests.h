@@ -13,6 +13,8 @@
 
 /* Of an order; more cannot be read. */
 #define LEGS_READ 100
+/* Of a line that starts a session; more cannot be read. */
+#define LIMITS_READ 100
 
 /* What an order or a quote is checked against; `set` changes it. */
 struct terms {
@@ -102,6 +104,10 @@ enum request_kind {
     REQUEST_PAIR,
     REQUEST_FIX,
     REQUEST_QUOTE,
+    REQUEST_LIMITS,
+    REQUEST_LOGIN_ORDER,
+    REQUEST_LOGIN_FIX,
+    REQUEST_RELEASE,
     REQUEST_SET,
     REQUEST_RESET,
     REQUEST_SHOW
@@ -120,6 +126,9 @@ struct request {
     struct opc_pair pair;
     struct opc_fix fix;
     struct opc_quote quote;
+    uint64_t limits[LIMITS_READ]; /* of a session that is started */
+    size_t limits_len;
+    uint64_t login;                               /* of an order, a message or a release */
     struct terms terms;                           /* that hold after the line */
     const struct settable *set[COUNT(settables)]; /* by the line, in its sequence */
     size_t set_len;
@@ -422,6 +431,57 @@ static inline bool read_quote(struct line *line, struct request *request) {
            is_at_end(line);
 }
 
+static inline bool take_whole(struct line *line, const char *name, uint64_t *number) {
+    struct field field;
+    if (!take(line, name, &field)) {
+        return false;
+    }
+    const char *trouble = read_whole(field, number);
+    return trouble == NULL || fault(line, field, name, trouble);
+}
+
+/* One limit is every login's; of any other number of them each is one login's, from login 0 on. */
+static inline bool read_limits(struct line *line, struct request *request) {
+    uint64_t *limits = request->limits;
+    request->limits_len = 0;
+    do {
+        if (request->limits_len == LIMITS_READ) {
+            return fault(line, next_field(line), "line", "has more than 100 limits");
+        }
+        if (!take_whole(line, "limit", &limits[request->limits_len++])) {
+            return false;
+        }
+    } while (next_field(line).len > 0);
+    if (request->limits_len == 1) {
+        for (; request->limits_len < OPC_LOGINS; request->limits_len++) {
+            limits[request->limits_len] = limits[0];
+        }
+    }
+    return true;
+}
+
+/* The login stands before a line's first word. */
+static inline bool read_login(struct line *line, struct request *request) {
+    if (!take_whole(line, "login", &request->login)) {
+        return false;
+    }
+    struct field word = next_field(line);
+    pass(line, word);
+    if (is(word, "order")) {
+        request->kind = REQUEST_LOGIN_ORDER;
+        return read_order(line, request);
+    }
+    if (is(word, "fix")) {
+        request->kind = REQUEST_LOGIN_FIX;
+        return read_fix(line, request);
+    }
+    return fault(line, word, "login", "has neither order nor fix after it");
+}
+
+static inline bool read_release(struct line *line, struct request *request) {
+    return take_whole(line, "login", &request->login) && is_at_end(line);
+}
+
 /* Gives what is wrong with the value, or NULL. */
 static inline const char *read_value(struct field text, enum unit unit, uint64_t *value) {
     bool has_point = memchr(text.text, '.', text.len) != NULL;
@@ -504,9 +564,15 @@ static inline bool read_request(struct line *line, const struct terms *now,
         enum request_kind kind;
         bool (*read)(struct line *line, struct request *request);
     } kinds[] = {
-        {"order", REQUEST_ORDER, read_order}, {"pair", REQUEST_PAIR, read_pair},
-        {"fix", REQUEST_FIX, read_fix},       {"quote", REQUEST_QUOTE, read_quote},
-        {"set", REQUEST_SET, read_set},       {"reset", REQUEST_RESET, read_reset},
+        {"order", REQUEST_ORDER, read_order},
+        {"pair", REQUEST_PAIR, read_pair},
+        {"fix", REQUEST_FIX, read_fix},
+        {"quote", REQUEST_QUOTE, read_quote},
+        {"limits", REQUEST_LIMITS, read_limits},
+        {"login", REQUEST_LOGIN_ORDER, read_login},
+        {"release", REQUEST_RELEASE, read_release},
+        {"set", REQUEST_SET, read_set},
+        {"reset", REQUEST_RESET, read_reset},
         {"show", REQUEST_SHOW, read_show},
     };
     request->kind = REQUEST_NOTHING;
@@ -526,7 +592,8 @@ static inline bool read_request(struct line *line, const struct terms *now,
         }
     }
     return fault(line, word, "line",
-                 "begins with none of order, pair, fix, quote, set, reset, show");
+                 "begins with none of order, pair, fix, quote, limits, login, release, set, reset, "
+                 "show");
 }
 
 #endif

@@ -11,6 +11,7 @@
 #include "made_orders.h"
 #include "made_pairs.h"
 #include "made_quotes.h"
+#include "made_sessions.h"
 #include "option_price_check.h"
 
 #include <stdlib.h>
@@ -36,6 +37,9 @@ static struct opc_answer answer;
 static struct opc_tally tally;
 static struct made_message body, message;
 static struct opc_fix fix;
+static uint64_t limits[OPC_LOGINS], login;
+static struct opc_session session;
+static size_t session_len;
 static struct made_pair made_pair;
 static struct opc_pair_answer pair_answer;
 static struct made_quote made_quote;
@@ -72,6 +76,23 @@ static void call_check_fix_tallied(void) {
                                           &answer.shape, &answer.pairings, &tally.seen,
                                           &tally.refused, &tally.accepted, &tally.rejected);
 }
+
+/* The session's numbers, as the entries take them. */
+#define SESSION (uint64_t *)&session, session_len
+
+static void call_start(void) { number = opc_start_session(limits, OPC_LOGINS, SESSION); }
+
+static void call_check_session(void) {
+    answer.number = opc_check_order_session(login, EACH_OF_ORDER(&made), SLICES_OF(&made), SESSION,
+                                            &answer.class_, &answer.shape, &answer.pairings);
+}
+
+static void call_check_fix_session(void) {
+    answer.number = opc_check_fix_session(login, EACH_OF_FIX(&fix), SLICES_OF(&made), SESSION,
+                                          &answer.class_, &answer.shape, &answer.pairings);
+}
+
+static void call_release(void) { number = opc_release_login(login, SESSION); }
 
 static void call_check_pair(void) {
     pair_answer.agency_number = opc_check_pair(
@@ -219,6 +240,9 @@ static size_t message_inputs(void (*call_made)(void), void (*call)(void)) {
     size_t inputs = order_inputs(call_made);
     made = random_order(OPC_MOST_LEGS);
     tally = (struct opc_tally){.seen = 0};
+    session = fresh_session(OPC_MOST_REJECTIONS);
+    session_len = OPC_SESSION_COUNT;
+    login = 0;
     for (size_t bytes = 1000; bytes <= LONGEST_MESSAGE; bytes *= 10, inputs++) {
         write_body(&body, &made);
         add_repeated(&body, "58=some text|", bytes);
@@ -233,6 +257,55 @@ static size_t fix_inputs(void) { return message_inputs(check_made_fix, call_chec
 
 static size_t fix_tallied_inputs(void) {
     return message_inputs(check_made_fix_tallied, call_check_fix_tallied);
+}
+
+/* A session that counts, and now and then one that does not, or no such login. */
+static void make_session(void) {
+    session = random_session();
+    session_len = one_in(16) ? below(OPC_SESSION_COUNT) : OPC_SESSION_COUNT;
+    login = one_in(16) ? next_random() : below(OPC_LOGINS);
+    if (one_in(8)) {
+        ((uint64_t *)&session)[below(OPC_SESSION_COUNT)] = next_random() >> below(64);
+    }
+}
+
+static void check_made_session(void) {
+    make_session();
+    on_painted_stack(call_check_session);
+}
+
+static size_t session_inputs(void) { return order_inputs(check_made_session); }
+
+static void check_made_fix_session(void) {
+    make_message();
+    make_session();
+    on_painted_stack(call_check_fix_session);
+}
+
+static size_t fix_session_inputs(void) {
+    return message_inputs(check_made_fix_session, call_check_fix_session);
+}
+
+/* Limits that are right, and now and then one that is not. */
+static size_t start_inputs(void) {
+    size_t inputs = 0;
+    for (; inputs < INPUTS_PER_KIND; inputs++) {
+        make_session();
+        for (size_t i = 0; i < OPC_LOGINS; i++) {
+            limits[i] = one_in(64) ? next_random() : between(1, OPC_MOST_REJECTIONS);
+        }
+        on_painted_stack(call_start);
+    }
+    return inputs;
+}
+
+static size_t release_inputs(void) {
+    size_t inputs = 0;
+    for (; inputs < INPUTS_PER_KIND; inputs++) {
+        make_session();
+        on_painted_stack(call_release);
+    }
+    return inputs;
 }
 
 /* The order on one side, and on the other its other side or some other order. */
@@ -268,10 +341,18 @@ int main(void) {
         const char *name;
         size_t (*run)(void);
     } entries[] = {
-        {"opc_read_symbol", read_inputs},  {"opc_write_symbol", write_inputs},
-        {"opc_check_order", check_inputs}, {"opc_check_order_tallied", tallied_inputs},
-        {"opc_check_fix", fix_inputs},     {"opc_check_fix_tallied", fix_tallied_inputs},
-        {"opc_check_pair", pair_inputs},   {"opc_check_quote", quote_inputs},
+        {"opc_read_symbol", read_inputs},
+        {"opc_write_symbol", write_inputs},
+        {"opc_check_order", check_inputs},
+        {"opc_check_order_tallied", tallied_inputs},
+        {"opc_check_fix", fix_inputs},
+        {"opc_check_fix_tallied", fix_tallied_inputs},
+        {"opc_start_session", start_inputs},
+        {"opc_check_order_session", session_inputs},
+        {"opc_check_fix_session", fix_session_inputs},
+        {"opc_release_login", release_inputs},
+        {"opc_check_pair", pair_inputs},
+        {"opc_check_quote", quote_inputs},
     };
     bool within = true;
     paint_stack();

@@ -26,7 +26,8 @@ struct slice {
  * the first three terms. The agency order of a pair is kept as an order.
  */
 static struct {
-    struct slice symbols, counts, message, settings, market;
+    struct slice symbols, counts, message, settings, market, limits, session;
+    uint64_t login;
     uint64_t terms[TERMS];
     struct opc_tally tally;
     struct slice contra_symbols, contra_counts;
@@ -113,6 +114,48 @@ uint64_t opc_check_fix_tallied(const uint8_t *message, size_t message_len, uint6
     exchange_tally(seen, refused, accepted, rejected);
     return opc_check_fix(message, message_len, stop, manual, opening, settings, settings_len,
                          market, market_len, class_, shape, pairings);
+}
+
+uint64_t opc_start_session(const uint64_t *limits, size_t limits_len, uint64_t *session,
+                           size_t session_len) {
+    given.limits = (struct slice){limits, limits_len};
+    given.session = (struct slice){session, session_len};
+    return told.answer.number;
+}
+
+/* Keeps whose call it is, and in which session. */
+static void take_login(uint64_t login, const uint64_t *session, size_t session_len) {
+    given.login = login;
+    given.session = (struct slice){session, session_len};
+}
+
+uint64_t opc_check_order_session(uint64_t login, const uint8_t *symbols, size_t symbols_len,
+                                 const uint8_t *counts, size_t counts_len, int64_t price,
+                                 uint64_t kind, uint64_t stop, uint64_t manual, uint64_t opening,
+                                 int64_t shares, const uint64_t *settings, size_t settings_len,
+                                 const uint64_t *market, size_t market_len, uint64_t *session,
+                                 size_t session_len, uint64_t *class_, uint64_t *shape,
+                                 uint64_t *pairings) {
+    take_login(login, session, session_len);
+    return opc_check_order(symbols, symbols_len, counts, counts_len, price, kind, stop, manual,
+                           opening, shares, settings, settings_len, market, market_len, class_,
+                           shape, pairings);
+}
+
+uint64_t opc_check_fix_session(uint64_t login, const uint8_t *message, size_t message_len,
+                               uint64_t stop, uint64_t manual, uint64_t opening,
+                               const uint64_t *settings, size_t settings_len,
+                               const uint64_t *market, size_t market_len, uint64_t *session,
+                               size_t session_len, uint64_t *class_, uint64_t *shape,
+                               uint64_t *pairings) {
+    take_login(login, session, session_len);
+    return opc_check_fix(message, message_len, stop, manual, opening, settings, settings_len,
+                         market, market_len, class_, shape, pairings);
+}
+
+uint64_t opc_release_login(uint64_t login, uint64_t *session, size_t session_len) {
+    take_login(login, session, session_len);
+    return told.answer.number;
 }
 
 uint64_t opc_check_pair(const uint8_t *agency_symbols, size_t agency_symbols_len,
@@ -275,6 +318,40 @@ static void test_fix_tallied_wrapper(void) {
     expect_tally_exchanged(&before, &tally);
 }
 
+/* The session itself is lent, with nothing of it changed on the way. */
+static void expect_login_arrived(uint64_t login, const struct opc_session *session) {
+    expect(given.login == login, "the login");
+    expect_slice(given.session, session, OPC_SESSION_COUNT, "the session");
+}
+
+static void test_session_wrappers(void) {
+    static struct opc_session session;
+    make_sent();
+    uint64_t login = next_value();
+    struct opc_answer answer =
+        opc_answer_order_session(login, &sent.order, &sent.settings, &sent.market, &session);
+    expect_order_answered(&answer);
+    expect_login_arrived(login, &session);
+    struct opc_fix fix = next_fix();
+    login = next_value();
+    answer = opc_answer_fix_session(login, &fix, &sent.settings, &sent.market, &session);
+    expect_fix_arrived(&fix, &answer);
+    expect_login_arrived(login, &session);
+}
+
+static void test_start_and_release_wrappers(void) {
+    static struct opc_session session;
+    static uint64_t limits[OPC_LOGINS];
+    make_sent();
+    expect(opc_answer_start(limits, &session) == told.answer.number, "the number of a start");
+    expect_slice(given.limits, limits, OPC_LOGINS, "the limits");
+    expect_slice(given.session, &session, OPC_SESSION_COUNT, "the session of a start");
+    make_sent();
+    uint64_t login = next_value();
+    expect(opc_answer_release(login, &session) == told.answer.number, "the number of a release");
+    expect_login_arrived(login, &session);
+}
+
 /* A contra order of other values than the order that was sent. */
 static void test_pair_wrapper(void) {
     static uint8_t symbols[OPC_SYMBOL_LENGTH], counts[OPC_COUNT_LENGTH];
@@ -332,6 +409,37 @@ static void test_initializers(void) {
     expect(same_tally(&fresh, &zeros), "the fresh tally");
 }
 
+/* A session's numbers, one by one, are the fields of its logins in their sequence. */
+static void test_session_numbers(void) {
+    struct opc_session session;
+    uint64_t numbers[OPC_SESSION_COUNT];
+    fill(numbers, OPC_SESSION_COUNT);
+    memcpy(&session, numbers, sizeof session);
+    for (size_t i = 0; i < OPC_LOGINS; i++) {
+        const uint64_t *row = numbers + 6 * i;
+        const struct opc_login *login = &session.logins[i];
+        const struct opc_tally tally = {row[1], row[2], row[3], row[4]};
+        expect(login->limit == row[0], "the place of a login's limit");
+        expect(same_tally(&login->tally, &tally), "the place of a login's tally");
+        expect(login->running == row[5], "the place of a login's running number");
+    }
+}
+
+/* At the limit or above it; whatever the tally. */
+static void test_restricted(void) {
+    static const struct {
+        uint64_t limit, running;
+        bool is_restricted;
+    } cases[] = {{1, 0, false},        {1, 1, true},         {1, 2, true},
+                 {10000, 9999, false}, {10000, 10000, true}, {UINT64_MAX, 0, false},
+                 {1, UINT64_MAX, true}};
+    for (size_t i = 0; i < COUNT(cases); i++) {
+        const struct opc_login login = {
+            .limit = cases[i].limit, .tally = next_tally(), .running = cases[i].running};
+        expect((opc_is_restricted(&login) != 0) == cases[i].is_restricted, "restricted or not");
+    }
+}
+
 static void test_counts(void) {
     static const struct {
         int64_t count;
@@ -360,10 +468,14 @@ int main(void) {
         test_tallied_wrapper();
         test_fix_wrapper();
         test_fix_tallied_wrapper();
+        test_session_wrappers();
+        test_start_and_release_wrappers();
         test_pair_wrapper();
         test_quote_wrapper();
     }
     test_initializers();
+    test_session_numbers();
+    test_restricted();
     test_counts();
     return all_hold();
 }

@@ -12,6 +12,7 @@
 #include "made_orders.h"
 #include "made_pairs.h"
 #include "made_quotes.h"
+#include "made_sessions.h"
 #include "option_price_check.h"
 
 #define RANDOM_CASES 100000
@@ -154,6 +155,43 @@ static uint64_t number_fix_tallied(void) {
     return opc_answer_fix_tallied(&fix, &m.settings, &m.market, &tally).number;
 }
 
+/* A right session, or one that is not. */
+static struct opc_session some_session(void) {
+    struct opc_session session = random_session();
+    session.logins[0].running += one_in(8) ? OPC_MOST_REJECTIONS : 0;
+    return session;
+}
+
+/* One of the first logins, or none. */
+static uint64_t some_login(void) { return one_in(8) ? OPC_LOGINS + below(2) : below(4); }
+
+static uint64_t number_of_start(void) {
+    uint64_t limits[OPC_LOGINS], session[OPC_SESSION_COUNT];
+    for (size_t i = 0; i < OPC_LOGINS; i++) {
+        limits[i] = one_in(OPC_LOGINS) ? 10001 * below(2) : between(1, OPC_MOST_REJECTIONS);
+    }
+    return opc_start_session(limits, OPC_LOGINS, session, OPC_SESSION_COUNT - below(2));
+}
+
+static uint64_t number_in_session(void) {
+    struct made_order m = some_order();
+    struct opc_order order = lend(&m);
+    struct opc_session session = some_session();
+    return opc_answer_order_session(some_login(), &order, &m.settings, &m.market, &session).number;
+}
+
+static uint64_t number_fix_in_session(void) {
+    struct made_order m;
+    struct opc_fix fix = some_fix(&m);
+    struct opc_session session = some_session();
+    return opc_answer_fix_session(some_login(), &fix, &m.settings, &m.market, &session).number;
+}
+
+static uint64_t number_of_release(void) {
+    struct opc_session session = some_session();
+    return opc_answer_release(some_login(), &session);
+}
+
 static struct opc_pair_answer answer_to_pair(void) {
     struct made_order m = some_order();
     struct made_pair p = random_pair(&m);
@@ -179,10 +217,18 @@ static void test_numbers(void) {
         const char *name;
         uint64_t (*number)(void);
     } entries[] = {
-        {"opc_read_symbol", number_read},     {"opc_write_symbol", number_written},
-        {"opc_check_order", number_of_order}, {"opc_check_order_tallied", number_tallied},
-        {"opc_check_fix", number_of_fix},     {"opc_check_fix_tallied", number_fix_tallied},
-        {"opc_check_pair", number_of_agency}, {"opc_check_pair", number_of_contra},
+        {"opc_read_symbol", number_read},
+        {"opc_write_symbol", number_written},
+        {"opc_check_order", number_of_order},
+        {"opc_check_order_tallied", number_tallied},
+        {"opc_check_fix", number_of_fix},
+        {"opc_check_fix_tallied", number_fix_tallied},
+        {"opc_start_session", number_of_start},
+        {"opc_check_order_session", number_in_session},
+        {"opc_check_fix_session", number_fix_in_session},
+        {"opc_release_login", number_of_release},
+        {"opc_check_pair", number_of_agency},
+        {"opc_check_pair", number_of_contra},
         {"opc_check_quote", number_of_quote},
     };
     uint64_t all = 0, rows = 0;

@@ -6,14 +6,16 @@
  *
  * What an entry promises: it takes any values and relies on no earlier test by its caller; it gives
  * one of the numbers of enum opc_number; it sets every lent number (every uint64_t pointer without
- * const) on every call, whatever was there before. A tally's four lent numbers alone are read too.
- * Slices (a const pointer and a length) are read, and never changed.
+ * const and without a length) on every call, whatever was there before. A tally's four lent numbers
+ * alone are read too. Slices (a const pointer and a length) are read, and never changed. A session
+ * (a uint64_t pointer without const, and a length) is read, and changed where it lies.
  *
- * What an entry asks of its caller: a pointer to a slice or a buffer is valid for the length beside
- * it, and is NULL only with length 0; a slice of numbers is aligned to 8 bytes, and its length is
- * the number of numbers; a pointer to a lent number is valid and never NULL; the lent numbers of
- * one call are distinct and share no memory with its slices or its buffer. So too an inline
- * function, whose pointers to structs are valid and never NULL.
+ * What an entry asks of its caller: a pointer to a slice, a session or a buffer is valid for the
+ * length beside it, and is NULL only with length 0; a slice of numbers and a session are aligned to
+ * 8 bytes, and their length is the number of numbers; a pointer to a lent number is valid and never
+ * NULL; the lent numbers of one call are distinct, and neither they nor its session share memory
+ * with each other, its slices or its buffer. So too an inline function, whose pointers to structs
+ * are valid and never NULL.
  *
  * For C11 or C++11, on x86-64; of the C library it needs no more than a freestanding one has.
  */
@@ -44,13 +46,13 @@ extern "C" {
 
 /* Of this face: one more with each change of an entry, its answers too, a struct, a number or a
  * limit. */
-#define OPC_VERSION 5
+#define OPC_VERSION 6
 
 /* What a number says of an order, a message, a quote or a symbol. */
 enum opc_outcome {
     OPC_OUTCOME_ACCEPTED = 0,
-    OPC_OUTCOME_REFUSED = 1, /* not judged; all other numbers are 0, but a tally's, and of a pair
-                              * the other order's */
+    OPC_OUTCOME_REFUSED = 1, /* not judged; all other numbers are 0, but a tally's or a session's,
+                              * and of a pair the other order's */
     OPC_OUTCOME_REJECTED = 2 /* by a check of the exchange */
 };
 
@@ -81,7 +83,8 @@ enum opc_outcome {
         "the phase or a market value is outside its limits")                                       \
     ROW(OPC_BAD_QUOTE, 11, REFUSED, "trading firm", "bid and offer",                               \
         "bid or offer is outside its limits, or the bid is not below")                             \
-    ROW(OPC_BAD_TALLY, 12, REFUSED, "host", "tally", "the tally is full, or does not add up")      \
+    ROW(OPC_BAD_TALLY, 12, REFUSED, "host", "tally",                                               \
+        "the tally or session is full, or is no right one")                                        \
     ROW(OPC_CHECK_PUT, 20, REJECTED, "trading firm", "put check",                                  \
         "the put check: a put is bought or bid for at its strike or above")                        \
     ROW(OPC_CHECK_CALL, 21, REJECTED, "trading firm", "call check",                                \
@@ -103,7 +106,10 @@ enum opc_outcome {
     ROW(OPC_BAD_VALUE, 32, REFUSED, "trading firm", "value",                                       \
         "the value of a needed tag is not of its form")                                            \
     ROW(OPC_BAD_SHARES, 33, REFUSED, "trading firm", "shares",                                     \
-        "the share count is beyond its limit")
+        "the share count is beyond its limit")                                                     \
+    ROW(OPC_BAD_LOGIN, 34, REFUSED, "host", "login", "there is no such login: they are 0 to 31")   \
+    ROW(OPC_RESTRICTED_LOGIN, 35, REFUSED, "trading firm", "restricted login",                     \
+        "the login has reached its limit of rejections, and is not released")
 
 #define OPC_ENUMERATOR(name, number, outcome, author, word, meaning) name = number,
 enum opc_number { OPC_NUMBERS(OPC_ENUMERATOR) };
@@ -426,8 +432,8 @@ static inline struct opc_answer opc_answer_order(const struct opc_order *order,
 #define OPC_MOST_TALLIED 1000000
 
 /*
- * The checks of a session, counted: each one seen is refused, accepted or rejected. The host keeps
- * the tally and lends it to each check; it begins fresh, with four zeros.
+ * Checks, counted: each one seen is refused, accepted or rejected. The host keeps the tally and
+ * lends it to each check; it begins fresh, with four zeros.
  */
 struct opc_tally {
     uint64_t seen;    /* at most OPC_MOST_TALLIED, and always the sum of the other three */
@@ -577,6 +583,158 @@ static inline struct opc_answer opc_answer_fix_tallied(const struct opc_fix *fix
         &answer.class_, &answer.shape, &answer.pairings, &tally->seen, &tally->refused,
         &tally->accepted, &tally->rejected);
     return answer;
+}
+
+/* The logins of a session, which are 0 to 31. */
+#define OPC_LOGINS 32
+/* The greatest limit of rejections that a login may have. */
+#define OPC_MOST_REJECTIONS 10000
+/* The most orders that the logins of one session count together. */
+#define OPC_SESSION_LIMIT 1000000
+/* A session goes to an entry as numbers: those of struct opc_session in their sequence. */
+#define OPC_SESSION_COUNT 192
+
+/*
+ * One login of a session: its orders, those in messages among them, counted, and how many of them
+ * were rejected since the session's start or the login's last release. Once that number has reached
+ * the limit the login is restricted: it gets OPC_RESTRICTED_LOGIN until the host releases it.
+ */
+struct opc_login {
+    uint64_t limit;         /* of rejections; 1 to OPC_MOST_REJECTIONS, fixed for the session */
+    struct opc_tally tally; /* an order given 12, 34 or 35 is not even seen */
+    uint64_t running;       /* rejections that count; at most the limit, and at most rejected */
+};
+
+/*
+ * The host keeps the session and lends it to each call. opc_start_session makes it; without that,
+ * or where that was refused, it is no right one.
+ */
+struct opc_session {
+    struct opc_login logins[OPC_LOGINS];
+};
+
+/* Numbers alone, six for each login: a pointer to the struct is one to the session's numbers. */
+OPC_STATIC_ASSERT(sizeof(struct opc_login) * OPC_LOGINS == OPC_SESSION_COUNT * sizeof(uint64_t),
+                  "the session");
+OPC_STATIC_ASSERT(sizeof(struct opc_session) == OPC_SESSION_COUNT * sizeof(uint64_t),
+                  "the session");
+
+/* Whether the login is restricted; it says nothing where the session is no right one. */
+static inline int opc_is_restricted(const struct opc_login *login) {
+    return login->running >= login->limit;
+}
+
+/*
+ * Starts a session: every login gets its limit of rejections, login 0 the first, and zeros.
+ *
+ * Returns the first of these that applies:
+ *   OPC_BAD_TALLY    session_len is not OPC_SESSION_COUNT;
+ *   OPC_BAD_SETTING  limits_len is not OPC_LOGINS, or a limit is not 1 to OPC_MOST_REJECTIONS;
+ *   OPC_ACCEPTED     otherwise.
+ *
+ * After OPC_BAD_TALLY the session is as it was. Otherwise each of its numbers is set, whatever was
+ * there before: after OPC_BAD_SETTING all are 0.
+ */
+uint64_t OPC_CALL opc_start_session(const uint64_t *limits, size_t limits_len, uint64_t *session,
+                                    size_t session_len);
+
+/* opc_start_session, with the session in a struct. */
+static inline uint64_t opc_answer_start(const uint64_t limits[OPC_LOGINS],
+                                        struct opc_session *session) {
+    return opc_start_session(limits, OPC_LOGINS, (uint64_t *)session, OPC_SESSION_COUNT);
+}
+
+/*
+ * Checks an order as opc_check_order does, and counts it for its login in the session.
+ *
+ * Returns the first of these that applies, the first three whatever the order:
+ *   OPC_BAD_LOGIN         login is above 31;
+ *   OPC_BAD_TALLY         session_len is not OPC_SESSION_COUNT; or of some login, of another too,
+ *                         limit is not 1 to OPC_MOST_REJECTIONS, seen is not refused, accepted and
+ *                         rejected together (their true sum, which may be above any uint64_t), or
+ *                         running is above limit or above rejected; or the logins have seen
+ *                         OPC_SESSION_LIMIT or more together (their true sum too);
+ *   OPC_RESTRICTED_LOGIN  the login's running has reached its limit;
+ *   otherwise             the number that opc_check_order gives.
+ *
+ * After the first three *class_, *shape and *pairings are 0, and the session is as it was.
+ * Otherwise they are as opc_check_order sets them, and of the session only the login's own numbers
+ * change: seen is one more than it was, and so is accepted, rejected or refused, as opc_outcome_of
+ * says of the number, and with rejected running too.
+ */
+uint64_t OPC_CALL opc_check_order_session(uint64_t login, const uint8_t *symbols,
+                                          size_t symbols_len, const uint8_t *counts,
+                                          size_t counts_len, int64_t price, uint64_t kind,
+                                          uint64_t stop, uint64_t manual, uint64_t opening,
+                                          int64_t shares, const uint64_t *settings,
+                                          size_t settings_len, const uint64_t *market,
+                                          size_t market_len, uint64_t *session, size_t session_len,
+                                          uint64_t *class_, uint64_t *shape, uint64_t *pairings);
+
+/* opc_check_order_session, with order, settings, market, session and answer in structs. */
+static inline struct opc_answer opc_answer_order_session(uint64_t login,
+                                                         const struct opc_order *order,
+                                                         const struct opc_settings *settings,
+                                                         const struct opc_market *market,
+                                                         struct opc_session *session) {
+    struct opc_answer answer;
+    answer.number = opc_check_order_session(
+        login, order->symbols, order->symbols_len, order->counts, order->counts_len, order->price,
+        order->kind, order->stop, order->manual, order->opening, order->shares,
+        (const uint64_t *)settings, OPC_SETTINGS_COUNT, (const uint64_t *)market, OPC_MARKET_COUNT,
+        (uint64_t *)session, OPC_SESSION_COUNT, &answer.class_, &answer.shape, &answer.pairings);
+    return answer;
+}
+
+/*
+ * Checks the order in a message as opc_check_fix does, and counts it for its login in the session,
+ * as opc_check_order_session does an order.
+ *
+ * Returns the first of these that applies, the first three whatever the message:
+ *   OPC_BAD_LOGIN, OPC_BAD_TALLY, OPC_RESTRICTED_LOGIN
+ *              as opc_check_order_session has them;
+ *   otherwise  the number that opc_check_fix gives.
+ *
+ * After the first three *class_, *shape and *pairings are 0, and the session is as it was.
+ * Otherwise they are as opc_check_fix sets them, and the session is as opc_check_order_session
+ * leaves it after that number.
+ */
+uint64_t OPC_CALL opc_check_fix_session(uint64_t login, const uint8_t *message, size_t message_len,
+                                        uint64_t stop, uint64_t manual, uint64_t opening,
+                                        const uint64_t *settings, size_t settings_len,
+                                        const uint64_t *market, size_t market_len,
+                                        uint64_t *session, size_t session_len, uint64_t *class_,
+                                        uint64_t *shape, uint64_t *pairings);
+
+/* opc_check_fix_session, with message, settings, market, session and answer in structs. */
+static inline struct opc_answer opc_answer_fix_session(uint64_t login, const struct opc_fix *fix,
+                                                       const struct opc_settings *settings,
+                                                       const struct opc_market *market,
+                                                       struct opc_session *session) {
+    struct opc_answer answer;
+    answer.number = opc_check_fix_session(
+        login, fix->message, fix->message_len, fix->stop, fix->manual, fix->opening,
+        (const uint64_t *)settings, OPC_SETTINGS_COUNT, (const uint64_t *)market, OPC_MARKET_COUNT,
+        (uint64_t *)session, OPC_SESSION_COUNT, &answer.class_, &answer.shape, &answer.pairings);
+    return answer;
+}
+
+/*
+ * Releases a login, restricted or not: its rejections count from 0 again.
+ *
+ * Returns the first of these that applies:
+ *   OPC_BAD_LOGIN  login is above 31;
+ *   OPC_BAD_TALLY  as opc_check_order_session has it, but a session may have seen any number;
+ *   OPC_ACCEPTED   otherwise.
+ *
+ * After OPC_ACCEPTED the login's running is 0, and all else of the session is as it was; after a
+ * refusal all of it.
+ */
+uint64_t OPC_CALL opc_release_login(uint64_t login, uint64_t *session, size_t session_len);
+
+/* opc_release_login, with the session in a struct. */
+static inline uint64_t opc_answer_release(uint64_t login, struct opc_session *session) {
+    return opc_release_login(login, (uint64_t *)session, OPC_SESSION_COUNT);
 }
 
 /*

@@ -11,14 +11,15 @@ use crate::{
     quote::{Quote, QuoteAnswer},
     quote_check,
     run::Seen,
-    slices::{self, market, setting},
+    session::{self, After, Release, Sent, Start},
+    slices::{self, login, market, setting},
     tally::{self, Tallied, TalliedAnswer},
     unit,
 };
 use std::fmt::{Debug, Display};
 
 pub trait Case: Clone + Display + PartialEq {
-    type Answer: Copy + Debug + PartialEq;
+    type Answer: Clone + Debug + PartialEq;
 
     fn library(&self) -> Self::Answer;
     fn second(&self) -> Self::Answer;
@@ -30,9 +31,10 @@ pub trait Case: Clone + Display + PartialEq {
     fn count(&self, answer: &Self::Answer, seen: &mut Seen);
 }
 
-/// What the tallied checks take: an order on slices, or a message with one.
+/// What the tallied checks and those of sessions take: an order on slices, or a message with one.
 pub trait Arriving: Case<Answer = Answer> {
     fn library_tallied(tallied: &Tallied<Self>) -> TalliedAnswer;
+    fn library_in_session(sent: &Sent<Self>) -> After<Answer>;
 }
 
 fn terms(settings: &[u64], market: &[u64]) -> String {
@@ -94,6 +96,10 @@ impl Arriving for Arrival {
     fn library_tallied(tallied: &Tallied<Self>) -> TalliedAnswer {
         unit::check_order_tallied(tallied)
     }
+
+    fn library_in_session(sent: &Sent<Self>) -> After<Answer> {
+        unit::check_order_session(sent)
+    }
 }
 
 impl Case for Message {
@@ -130,6 +136,10 @@ impl Arriving for Message {
     fn library_tallied(tallied: &Tallied<Self>) -> TalliedAnswer {
         unit::check_fix_tallied(tallied)
     }
+
+    fn library_in_session(sent: &Sent<Self>) -> After<Answer> {
+        unit::check_fix_session(sent)
+    }
 }
 
 impl<A: Arriving> Case for Tallied<A> {
@@ -149,6 +159,83 @@ impl<A: Arriving> Case for Tallied<A> {
 
     fn count(&self, answer: &TalliedAnswer, seen: &mut Seen) {
         self.arrival.count(&answer.answer, seen);
+    }
+}
+
+/// A line for each login.
+fn session_described(session: &[u64]) -> String {
+    let rows = session.chunks(login::LENGTH).enumerate();
+    let lines = rows.map(|(place, row)| {
+        let row = slices::described(login::NAMES, row);
+        format!("  login {place}: {row}")
+    });
+    lines.collect::<Vec<_>>().join("\n")
+}
+
+impl<A: Arriving> Case for Sent<A> {
+    type Answer = After<Answer>;
+
+    fn library(&self) -> After<Answer> {
+        A::library_in_session(self)
+    }
+
+    fn second(&self) -> After<Answer> {
+        session::check(self)
+    }
+
+    fn described(&self) -> String {
+        format!(
+            "{}\n  sent by login {}\n{}",
+            session_described(&self.session),
+            self.login,
+            self.arrival.described(),
+        )
+    }
+
+    fn count(&self, answer: &After<Answer>, seen: &mut Seen) {
+        self.arrival.count(&answer.given, seen);
+    }
+}
+
+impl Case for Release {
+    type Answer = After<u64>;
+
+    fn library(&self) -> After<u64> {
+        unit::release_login(self)
+    }
+
+    fn second(&self) -> After<u64> {
+        session::release(self)
+    }
+
+    fn described(&self) -> String {
+        let session = session_described(&self.session);
+        format!("{session}\n  release of login {}", self.login)
+    }
+
+    fn count(&self, answer: &After<u64>, seen: &mut Seen) {
+        *seen.numbers.entry(answer.given).or_default() += 1;
+    }
+}
+
+impl Case for Start {
+    type Answer = After<u64>;
+
+    fn library(&self) -> After<u64> {
+        unit::start_session(self)
+    }
+
+    fn second(&self) -> After<u64> {
+        session::start(self)
+    }
+
+    fn described(&self) -> String {
+        let session = session_described(&self.session);
+        format!("{session}\n  start with limits {:?}", self.limits)
+    }
+
+    fn count(&self, answer: &After<u64>, seen: &mut Seen) {
+        *seen.numbers.entry(answer.given).or_default() += 1;
     }
 }
 

@@ -1,11 +1,12 @@
 //! The proved library beside a second implementation of the same rules, in the same types, so that
 //! a test can put one question to both.
 //!
-//! `unit` is the library. `numbers` has every number with its kind, `slices` the names of settings
-//! and market. The second implementation is `osi` for symbols, `order`, with `pairing`, `shape`,
-//! `class` and `checks` below it, for orders, `fix` for messages, `tally` for tallied ones of both,
-//! `pair` for auction pairs, and `quote_check` for quotes. `cases` reads those of the repository's
-//! files, `generate` and `limits` make others up, and `run` puts them to both and counts.
+//! `unit` is the library. `numbers` has every number with its kind, `slices` the names of settings,
+//! market and a login's numbers. The second implementation is `osi` for symbols, `order`, with
+//! `pairing`, `shape`, `class` and `checks` below it, for orders, `fix` for messages, `tally` for
+//! tallied ones of both, `session` for those of logins, `pair` for auction pairs, and `quote_check`
+//! for quotes. `cases` reads those of the repository's files, `generate` and `limits` make others
+//! up, and `run` puts them to both and counts.
 #![deny(unsafe_code)]
 
 pub mod arrival;
@@ -28,6 +29,7 @@ pub mod quote_check;
 pub mod random;
 pub mod run;
 pub mod series;
+pub mod session;
 pub mod shape;
 pub mod slices;
 pub mod tally;

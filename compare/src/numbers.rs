@@ -1,8 +1,8 @@
-//! The numbers of document 01, Number and its author, and of document 02, S-1 and S-4: each once,
-//! with its kind and of what it can be said, and which of them comes first.
+//! The numbers of document 01, Number and its author, and of document 02, S-1, S-4 and S-6: each
+//! once, with its kind and of what it can be said, and which of them comes first.
 
 use Kind::{Accepted, Refused, Rejected};
-use Of::{Message, Order, Quote, Symbol, Tally};
+use Of::{Message, Order, Quote, Release, Session, Start, Symbol, Tally};
 
 #[derive(Clone, Copy, Debug, PartialEq, Eq, PartialOrd, Ord)]
 pub enum Kind {
@@ -13,13 +13,17 @@ pub enum Kind {
 
 /// Of a symbol it is said by the reader or the writer. Of a tallied order or message all is said
 /// that is said of one without a tally, and more of its tally. Of either order of a pair the same is
-/// said as of an order.
+/// said as of an order. Of an order or a message in a session all is said that is said of one
+/// without, and more of its login and its session; a start and a release have their own.
 #[derive(Clone, Copy, Debug, PartialEq, Eq)]
 pub enum Of {
     Symbol,
     Order,
     Message,
     Tally,
+    Session,
+    Start,
+    Release,
     Quote,
 }
 
@@ -34,11 +38,15 @@ pub const BAD_FRAME: u64 = 30;
 pub const BAD_TAGS: u64 = 31;
 pub const BAD_VALUE: u64 = 32;
 pub const BAD_SHARES: u64 = 33;
+pub const BAD_LOGIN: u64 = 34;
+pub const RESTRICTED_LOGIN: u64 = 35;
 
 /// In the sequence in which they are given: the first that applies, and 0 where no other does. Of
 /// messages 33 is never said, since an order has no shares there.
-const ALL: [(u64, Kind, &[Of]); 24] = [
-    (BAD_TALLY, Refused, &[Tally]),
+const ALL: [(u64, Kind, &[Of]); 26] = [
+    (BAD_LOGIN, Refused, &[Session, Release]),
+    (BAD_TALLY, Refused, &[Tally, Session, Start, Release]),
+    (RESTRICTED_LOGIN, Refused, &[Session]),
     (BAD_FRAME, Refused, &[Message]),
     (BAD_TAGS, Refused, &[Message]),
     (BAD_VALUE, Refused, &[Message]),
@@ -51,7 +59,7 @@ const ALL: [(u64, Kind, &[Of]); 24] = [
     (7, Refused, &[Order, Message]),
     (8, Refused, &[Order, Message]),
     (BAD_SHARES, Refused, &[Order]),
-    (BAD_SETTING, Refused, &[Order, Message, Quote]),
+    (BAD_SETTING, Refused, &[Order, Message, Start, Quote]),
     (BAD_MARKET, Refused, &[Order, Message, Quote]),
     (11, Refused, &[Quote]),
     (20, Rejected, &[Order, Message, Quote]),
@@ -61,7 +69,11 @@ const ALL: [(u64, Kind, &[Of]); 24] = [
     (24, Rejected, &[Order, Message]),
     (25, Rejected, &[Order, Message]),
     (26, Rejected, &[Quote]),
-    (ACCEPTED, Accepted, &[Symbol, Order, Message, Quote]),
+    (
+        ACCEPTED,
+        Accepted,
+        &[Symbol, Order, Message, Start, Release, Quote],
+    ),
 ];
 
 fn place(number: u64) -> usize {

@@ -1,5 +1,6 @@
-//! Settings and market as they are lent: slices of numbers, which may be of any length. In a slice
-//! of the right length every place has a name: those of the C structs, in the same sequence.
+//! Settings, market and a login's row of a session as they are lent: slices of numbers, which may be
+//! of any length. In a slice of the right length every place has a name: those of the C structs, in
+//! the same sequence.
 
 /// Names the places of a slice from the first on, and lists the names.
 macro_rules! places {
@@ -30,6 +31,10 @@ pub mod market {
     pub const PRE_OPENING: u64 = 0;
     pub const OPEN: u64 = 1;
     pub const HALT: u64 = 2;
+}
+
+pub mod login {
+    places! { LIMIT SEEN REFUSED ACCEPTED REJECTED RUNNING }
 }
 
 /// The settings that head document 01's examples.

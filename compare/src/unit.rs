@@ -5,6 +5,7 @@ use crate::{
     message::Message,
     pair::{Pair, PairAnswer},
     quote::{Quote, QuoteAnswer},
+    session::{After, Release, Sent, Start},
     tally::{Tallied, TalliedAnswer},
     Parts, Read, Written,
 };
@@ -32,12 +33,22 @@ extern "C" {
         out_len: usize,
         number: &mut u64,
     ) -> u64;
+
+    fn opc_start_session(
+        limits: *const u64,
+        limits_len: usize,
+        session: *mut u64,
+        session_len: usize,
+    ) -> u64;
+
+    fn opc_release_login(login: u64, session: *mut u64, session_len: usize) -> u64;
 }
 
 /// Declares an entry that takes settings and a market between other arguments, and calls it.
 macro_rules! call {
     (
         $entry:ident, $case:expr, [$($before:ident: $type:ty = $value:expr),* $(,)?],
+        [$($after:ident: $after_type:ty = $after_value:expr),* $(,)?],
         [$($lent:ident: $number:expr),* $(,)?]
     ) => {{
         extern "C" {
@@ -47,6 +58,7 @@ macro_rules! call {
                 settings_len: usize,
                 market: *const u64,
                 market_len: usize,
+                $($after: $after_type,)*
                 $($lent: &mut u64),*
             ) -> u64;
         }
@@ -57,15 +69,18 @@ macro_rules! call {
             settings.len(),
             market.as_ptr(),
             market.len(),
+            $($after_value,)*
             $(&mut $number),*
         )
     }};
 }
 
 /// Calls an entry that answers as the order check does, and may be lent more than the parts of the
-/// answer.
+/// answer. Its own arguments are those before the flags and after them.
 macro_rules! call_for_answer {
-    ($entry:ident, $case:expr, [$($before:tt)*], [$($after:tt)*], [$($more:tt)*]) => {{
+    (
+        $entry:ident, $case:expr, [$($before:tt)*], [$($after:tt)*], $session:tt, [$($more:tt)*]
+    ) => {{
         let mut answer = Answer {
             number: UNSET,
             class: UNSET,
@@ -81,6 +96,7 @@ macro_rules! call_for_answer {
                 opening: u64 = $case.opening,
                 $($after)*
             ],
+            $session,
             [
                 class: answer.class,
                 shape: answer.shape,
@@ -92,11 +108,13 @@ macro_rules! call_for_answer {
     }};
 }
 
+/// The arguments of a session's entry, the login and the session, are none for the others.
 macro_rules! call_order {
-    ($entry:ident, $arrival:expr, $more:tt) => {
+    ($entry:ident, $arrival:expr, [$($login:tt)*], $session:tt, $more:tt) => {
         call_for_answer!(
             $entry, $arrival,
             [
+                $($login)*
                 symbols: *const u8 = $arrival.symbols.as_ptr(),
                 symbols_len: usize = $arrival.symbols.len(),
                 counts: *const u8 = $arrival.counts.as_ptr(),
@@ -105,21 +123,21 @@ macro_rules! call_order {
                 kind: u64 = $arrival.kind,
             ],
             [shares: i64 = $arrival.shares],
-            $more
+            $session, $more
         )
     };
 }
 
 macro_rules! call_fix {
-    ($entry:ident, $message:expr, $more:tt) => {
+    ($entry:ident, $message:expr, [$($login:tt)*], $session:tt, $more:tt) => {
         call_for_answer!(
             $entry, $message,
             [
+                $($login)*
                 message: *const u8 = $message.bytes.as_ptr(),
                 message_len: usize = $message.bytes.len(),
             ],
-            [],
-            $more
+            [], $session, $more
         )
     };
 }
@@ -129,7 +147,7 @@ macro_rules! call_tallied {
     ($call:ident, $entry:ident, $tallied:expr) => {{
         let (arrival, mut tally) = (&$tallied.arrival, $tallied.tally);
         let answer = $call!(
-            $entry, arrival,
+            $entry, arrival, [], [],
             [
                 seen: tally.seen,
                 refused: tally.refused,
@@ -138,6 +156,20 @@ macro_rules! call_tallied {
             ]
         );
         TalliedAnswer { answer, tally }
+    }};
+}
+
+/// Calls an entry by one of them, with a login and a session.
+macro_rules! call_in_session {
+    ($call:ident, $entry:ident, $sent:expr) => {{
+        let (arrival, mut session) = (&$sent.arrival, $sent.session.clone());
+        let given = $call!(
+            $entry, arrival,
+            [login: u64 = $sent.login,],
+            [session: *mut u64 = session.as_mut_ptr(), session_len: usize = session.len()],
+            []
+        );
+        After { given, session }
     }};
 }
 
@@ -191,7 +223,7 @@ pub fn write(parts: &Parts, out: &mut [u8]) -> Written {
 pub fn check_order(arrival: &Arrival) -> Answer {
     // SAFETY: each pointer is valid for its length, and the lent numbers are apart from each other
     // and from the slices.
-    unsafe { call_order!(opc_check_order, arrival, []) }
+    unsafe { call_order!(opc_check_order, arrival, [], [], []) }
 }
 
 pub fn check_order_tallied(tallied: &Tallied) -> TalliedAnswer {
@@ -201,12 +233,44 @@ pub fn check_order_tallied(tallied: &Tallied) -> TalliedAnswer {
 
 pub fn check_fix(message: &Message) -> Answer {
     // SAFETY: as for the order check.
-    unsafe { call_fix!(opc_check_fix, message, []) }
+    unsafe { call_fix!(opc_check_fix, message, [], [], []) }
 }
 
 pub fn check_fix_tallied(tallied: &Tallied<Message>) -> TalliedAnswer {
     // SAFETY: as for the tallied order check.
     unsafe { call_tallied!(call_fix, opc_check_fix_tallied, tallied) }
+}
+
+pub fn start_session(start: &Start) -> After<u64> {
+    let Start { limits, session } = start;
+    let mut session = session.clone();
+    // SAFETY: each pointer is valid for its length, and the session is apart from the limits.
+    let given = unsafe {
+        opc_start_session(
+            limits.as_ptr(),
+            limits.len(),
+            session.as_mut_ptr(),
+            session.len(),
+        )
+    };
+    After { given, session }
+}
+
+pub fn check_order_session(sent: &Sent) -> After<Answer> {
+    // SAFETY: as for the order check, and the session is apart from all else.
+    unsafe { call_in_session!(call_order, opc_check_order_session, sent) }
+}
+
+pub fn check_fix_session(sent: &Sent<Message>) -> After<Answer> {
+    // SAFETY: as for an order in a session.
+    unsafe { call_in_session!(call_fix, opc_check_fix_session, sent) }
+}
+
+pub fn release_login(release: &Release) -> After<u64> {
+    let mut session = release.session.clone();
+    // SAFETY: the pointer is valid for the length.
+    let given = unsafe { opc_release_login(release.login, session.as_mut_ptr(), session.len()) };
+    After { given, session }
 }
 
 pub fn check_pair(pair: &Pair) -> PairAnswer {
@@ -244,6 +308,7 @@ pub fn check_pair(pair: &Pair) -> PairAnswer {
                 contra_shares: i64 = contra.shares,
                 continue_unpaired: u64 = pair.continue_unpaired,
             ],
+            [],
             [
                 contra_number: answer.contra_number,
                 agency_passes: answer.agency_passes,
@@ -267,6 +332,7 @@ pub fn check_quote(quote: &Quote) -> QuoteAnswer {
                 offer: u64 = quote.offer,
                 resting: u64 = quote.resting,
             ],
+            [],
             [cancel: cancel]
         )
     };

@@ -27,7 +27,7 @@ fn hold<C: Case>(run: &mut Run, cases: &[Expected<C>], names: &[&str]) {
     for expected in cases {
         let (case, place) = (&expected.case, &expected.place);
         assert_eq!(case.second(), expected.answer, "{place}");
-        run.expect(case, expected.answer, place);
+        run.expect(case, expected.answer.clone(), place);
     }
     for name in names {
         let file = format!("cases/{name}.desk:");
@@ -334,7 +334,7 @@ fn change_numbers<C: Varied>(run: &mut Run, cases: impl Iterator<Item = C>) -> V
                 *case.numbers()[place] = other;
                 let answer = run.compare(&case);
                 if other != 0 && is_flag(name) {
-                    assert_eq!(answer, *yes.get_or_insert(answer), "{name}: {case}");
+                    assert_eq!(answer, *yes.get_or_insert(answer.clone()), "{name}: {case}");
                 }
                 if answer != before && !refused(&answer) && !refused(&before) {
                     deciding.insert(name);

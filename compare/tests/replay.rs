@@ -5,13 +5,15 @@
 use compare::{
     arrival::Arrival,
     case::Case,
-    cases, generate,
+    cases,
+    generate::{self, sessions},
     message::{Message, MESSAGE},
     order,
     pair::{Pair, PAIR},
     quote::{Quote, QUOTE},
     random::Random,
     run::{Run, CASE_VARIABLE},
+    session::{Release, Sent, Start, RELEASE, SENT, START},
     tally::{Tallied, Tally, TALLIED},
 };
 use std::{env, fmt::Debug, str::FromStr};
@@ -28,6 +30,10 @@ fn replay() {
         (Some(MESSAGE), _) => again::<Message>(&line),
         (Some(TALLIED), Some(MESSAGE)) => again::<Tallied<Message>>(&line),
         (Some(TALLIED), _) => again::<Tallied>(&line),
+        (Some(SENT), Some(MESSAGE)) => again::<Sent<Message>>(&line),
+        (Some(SENT), _) => again::<Sent>(&line),
+        (Some(RELEASE), _) => again::<Release>(&line),
+        (Some(START), _) => again::<Start>(&line),
         _ => {
             let arrival = read(&line);
             println!("by contracts: {:?}", order::check_by_contracts(&arrival));
@@ -77,6 +83,32 @@ fn lines_read_back() {
         reads_back(&generate::pair(&mut random));
         reads_back(&generate::quote(&mut random));
     }
+    for _ in 0..1_000 {
+        calls_in_session_read_back(&mut random);
+    }
+}
+
+fn calls_in_session_read_back(random: &mut Random) {
+    let mut session = sessions::session(random);
+    sessions::damage_session(random, &mut session);
+    let login = sessions::login(random);
+    reads_back(&Sent {
+        login,
+        arrival: generate::arrival(random),
+        session: session.clone(),
+    });
+    reads_back(&Sent {
+        login,
+        arrival: generate::message(random),
+        session: session.clone(),
+    });
+    let limits = sessions::limits(random);
+    let limits = limits[..random.index(33)].to_vec();
+    reads_back(&Start {
+        limits,
+        session: session.clone(),
+    });
+    reads_back(&Release { login, session });
 }
 
 fn reads_back<C: Case + Debug + PartialEq + FromStr<Err = String>>(case: &C) {

@@ -4,9 +4,9 @@
 //! check without a tally.
 
 use compare::{
-    arrival::{Answer, Arrival},
+    arrival::Answer,
     case::Arriving,
-    generate::{arrival, message},
+    generate::{arrival, message, one_of_each_number},
     limits::every_length,
     numbers::{self, kind, Kind, Of, BAD_TALLY},
     order,
@@ -15,7 +15,7 @@ use compare::{
     slices::{market, setting},
     tally::{self, Tallied, TalliedAnswer, Tally},
 };
-use std::collections::{BTreeMap, BTreeSet};
+use std::collections::BTreeMap;
 
 const LIMIT: u64 = 1_000_000;
 
@@ -337,14 +337,17 @@ fn lengths_of_settings_and_market() {
 fn one_list_to_the_limit() {
     const BEYOND: u64 = 1_000;
     let mut run = Run::new("to the limit");
-    let mut pool = one_of_each_number(&mut run.random);
+    let pool = one_of_each_number(&mut run.random, Of::Order, arrival);
     let mut list = List::from(Tally::default());
     for _ in 0..LIMIT + BEYOND {
         let place = run.random.index(pool.len());
-        let (tallied, plain) = &mut pool[place];
-        tallied.tally = list.tally;
+        let (arrival, plain) = &pool[place];
+        let tallied = Tallied {
+            arrival: arrival.clone(),
+            tally: list.tally,
+        };
         let expected = tally::add(list.tally, *plain);
-        let answer = run.expect(tallied, expected, "the second implementation");
+        let answer = run.expect(&tallied, expected, "the second implementation");
         list.count(*plain, answer);
     }
     list.finish();
@@ -354,22 +357,4 @@ fn one_list_to_the_limit() {
     for number in numbers::of(Of::Order) {
         assert!(run.given(number) > 10_000, "number {number}");
     }
-}
-
-/// For each number an arrival that gets it, the shortest of many, with its answer.
-fn one_of_each_number(random: &mut Random) -> Vec<(Tallied, Answer)> {
-    let mut shortest: BTreeMap<u64, (Arrival, Answer)> = BTreeMap::new();
-    for _ in 0..20_000 {
-        let arrival = arrival(random);
-        let answer = order::check(&arrival);
-        let known = shortest.get(&answer.number);
-        if known.is_none_or(|(known, _)| arrival.symbols.len() < known.symbols.len()) {
-            shortest.insert(answer.number, (arrival, answer));
-        }
-    }
-    let numbers: BTreeSet<u64> = shortest.keys().copied().collect();
-    assert_eq!(numbers, numbers::of(Of::Order).into_iter().collect());
-    let tally = Tally::default();
-    let tallied = |(arrival, answer)| (Tallied { arrival, tally }, answer);
-    shortest.into_values().map(tallied).collect()
 }

@@ -1,12 +1,13 @@
-//! Arrivals, messages, pairs and quotes made up at random, so biased that the rules meet: legs that
-//! form the known shapes or nearly do, prices at the limits that checks draw, settings and markets
-//! at their own limits, and damage of every kind.
+//! Arrivals, messages, pairs, quotes and sessions made up at random, so biased that the rules meet:
+//! legs that form the known shapes or nearly do, prices at the limits that checks draw, settings,
+//! markets and logins at their own limits, and damage of every kind.
 
 mod damage;
 mod legs;
 pub mod messages;
 mod pairs;
 mod quotes;
+pub mod sessions;
 mod values;
 
 pub use damage::damage;
@@ -17,10 +18,13 @@ pub use quotes::quote;
 pub use values::{market, settings};
 
 use crate::{
-    arrival::{Arrival, RawLeg},
+    arrival::{Answer, Arrival, RawLeg},
+    case::Case,
+    numbers::{self, Of},
     random::Random,
     series::Series,
 };
+use std::collections::{BTreeMap, BTreeSet};
 use values::{price, shares};
 
 /// Series with signed counts, before they become bytes.
@@ -88,4 +92,26 @@ fn order(random: &mut Random, draft: &Draft, settings: &[u64], market: &[u64]) -
         arrival.opening *= random.number();
     }
     arrival
+}
+
+/// For each number of orders, or of messages, one that gets it, the shortest of many, with its
+/// answer.
+pub fn one_of_each_number<A: Case<Answer = Answer>>(
+    random: &mut Random,
+    what: Of,
+    make: fn(&mut Random) -> A,
+) -> Vec<(A, Answer)> {
+    let length = |arrival: &A| arrival.to_string().len();
+    let mut shortest: BTreeMap<u64, (A, Answer)> = BTreeMap::new();
+    for _ in 0..20_000 {
+        let arrival = make(random);
+        let answer = arrival.second();
+        let known = shortest.get(&answer.number);
+        if known.is_none_or(|(known, _)| length(&arrival) < length(known)) {
+            shortest.insert(answer.number, (arrival, answer));
+        }
+    }
+    let numbers: BTreeSet<u64> = shortest.keys().copied().collect();
+    assert_eq!(numbers, numbers::of(what).into_iter().collect());
+    shortest.into_values().collect()
 }

@@ -8,8 +8,8 @@ use lib.Dec.{eqb}
 use lib.ListN.{length, take, drop, length-append, length-drop}
 use lib.Seq.{length-take-le, take-append-seam, drop-append-add, drop-drop, take-add, slice}
 use borrow.Author.Tests.{eqb-true}
-use Rattle.rules.specs.Lists.{All, all}
-use Rattle.rules.specs.Fix.{ahead, fieldsOf, bytesOf, total}
+use Rattle.rules.specs.Lists.{All, all, total}
+use Rattle.rules.specs.Fix.{ahead, fieldsOf, bytesOf}
 use Rattle.rules.proofs.Tests.{and-both, not-eq}
 
 -- no byte 1 is among the bytes

@@ -6,9 +6,9 @@ use Prim.Native.Nat.{ℕ, _+_}
 use native.Mathlib.Omega.{arith}
 use lib.Dec.{eqb}
 use lib.ListN.{length, length-append, drop}
-use Rattle.rules.specs.Lists.{all, any}
+use Rattle.rules.specs.Lists.{all, any, total}
 use Rattle.rules.specs.Numerals.{value, numeral}
-use Rattle.rules.specs.Fix.{bytesOf, leadingDigits, tagOf, valueOf, total, allButLast, lastOf, isFrameTag, isFramed, hasFrame, howOften, before, valueAt, behind, digitsFor}
+use Rattle.rules.specs.Fix.{bytesOf, leadingDigits, tagOf, valueOf, allButLast, lastOf, isFrameTag, isFramed, hasFrame, howOften, before, valueAt, behind, digitsFor}
 use Rattle.rules.proofs.Tests.{and-no}
 use Rattle.field_laws.proofs.Fields.{bytes-append, total-append}
 use Rattle.message_theorems.specs.Groups.{Group, fieldsIn}

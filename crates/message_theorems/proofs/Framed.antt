@@ -7,9 +7,9 @@ use native.Mathlib.Omega.{arith}
 use lib.Dec.{lit≤}
 use lib.ListN.{length, drop}
 use borrow.Author.Tests.{eq-eqb}
-use Rattle.rules.specs.Lists.{All, all, sameNumbers}
+use Rattle.rules.specs.Lists.{All, all, total, sameNumbers}
 use Rattle.rules.specs.Numerals.{value, numeral, areDigits}
-use Rattle.rules.specs.Fix.{fieldsOf, bytesOf, leadingDigits, isField, tagOf, valueOf, areFields, says, version, multileg, total, sumDigits, allButLast, lastOf, isFrameTag, isFramed, hasFrame, bodyOf, isFormed, digitsFor, decimal, fieldFor, behind9, before10, framed}
+use Rattle.rules.specs.Fix.{fieldsOf, bytesOf, leadingDigits, isField, tagOf, valueOf, areFields, says, version, multileg, sumDigits, allButLast, lastOf, isFrameTag, isFramed, hasFrame, bodyOf, isFormed, digitsFor, decimal, fieldFor, behind9, before10, framed}
 use Rattle.rules.proofs.Numerals.{numeral-digits}
 use Rattle.rules.proofs.Tests.{and-of}
 use Rattle.laws.proofs.Sorting.{all-append, all-weaken}

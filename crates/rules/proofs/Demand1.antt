@@ -1,12 +1,13 @@
 -- Which numbers the entries' definitions give, and what a refusal leaves.
 use mathlib.Core.Path.{_≡_, refl, sym, ap, _∙_}
 use mathlib.Core.Logic.{⊎-elim}
-use mathlib.Core.List.{List, [], _∷_, List·Memᴰ, List·Memᴰ·head, List·Memᴰ·tail}
+use mathlib.Core.List.{List, [], _∷_, _++_, List·Memᴰ, List·Memᴰ·head, List·Memᴰ·tail}
 use mathlib.Core.Bool.{Bool, true, false, cond, not, _&&_, _||_, true≢false}
 use Prim.Native.Nat.{ℕ, zero, suc, _/_}
 use lib.ListN.{length}
 use lib.Dec.{eqb}
 use lib.IntN.{pos}
+use native.Mathlib.Omega.{arith}
 use borrow.Author.Tests.{eqb-true}
 use Rattle.rules.specs.declared.RawLeg.{RawLeg}
 use Rattle.rules.specs.declared.Terms.{Terms}
@@ -27,8 +28,9 @@ use Rattle.rules.specs.Symbol.{partsOf}
 use Rattle.rules.specs.Quote.{quoteRefusals, quoteRefusal, quoteRejections, quoteRejection, answeredQuote, quoteOutcome, checkQuote}
 use Rattle.rules.specs.Fix.{messageRefusals, messageRefusal, SaidOrder, orderIn, bodyOf, checkSaid, checkFix}
 use Rattle.rules.specs.Tally.{isBadTally, tallied, Call, order, message, ownAnswer, checkTallied}
+use Rattle.rules.specs.Session.{isWholeSession, isLimitFor, turnings, turnedAway, changedBy, checkInSession, releaseLogin, startSession}
 use Rattle.rules.specs.WithoutShares.{optionRefusals, optionRejections, optionsJudged, checkOptions}
-use Rattle.rules.specs.Demand1.{readerNumbers, Reader, writerNumbers, Writer, legNumbers, orderNumbers, OrderAnswers, OrderCheck, optionNumbers, messageNumbers, MessageCheck, quoteNumbers, QuoteAnswers, QuoteCheck, TalliedAnswers, callNumbers, TalliedCheck, Numbered}
+use Rattle.rules.specs.Demand1.{readerNumbers, Reader, writerNumbers, Writer, legNumbers, orderNumbers, OrderAnswers, OrderCheck, optionNumbers, messageNumbers, MessageCheck, quoteNumbers, QuoteAnswers, QuoteCheck, TalliedAnswers, callNumbers, TalliedCheck, turningNumbers, SessionAnswers, SessionCheck, releaseNumbers, ReleaseAnswers, Release, StartAnswers, Start, Numbered}
 use Rattle.rules.proofs.Tests.{and-both, not-eq, same-eq}
 use Rattle.rules.proofs.Symbols.{read-cases, write-cases}
 use Rattle.rules.proofs.Numbering.{first-passes}
@@ -218,6 +220,63 @@ pub tallied-check : TalliedCheck
 unfolding checkTallied
 tallied-check t c = tallied-answers (callNumbers c) (no-twelve c) t (ownAnswer c) (call-answers c) (isBadTally t) refl
 
+-- ---- sessions
+
+member-more : (n : ℕ) (ns ms : List ℕ) → List·Memᴰ n ns → List·Memᴰ n (ns ++ ms)
+member-more n (k ∷ ns) ms (List·Memᴰ·head e) = List·Memᴰ·head e
+member-more n (k ∷ ns) ms (List·Memᴰ·tail m) = List·Memᴰ·tail (member-more n ns ms m)
+
+not-zero : (k : ℕ) (ns : List ℕ) → List·Memᴰ (suc k) (0 ∷ ns) → List·Memᴰ (suc k) ns
+not-zero k ns (List·Memᴰ·head e) = absurd (omega (arith, e))
+not-zero k ns (List·Memᴰ·tail m) = m
+
+-- no check gives 34, 12 or 35 by itself
+pub none-turns : (c : Call) → all (λ n. not (isOf turningNumbers n)) (callNumbers c) ≡ true
+unfolding all any
+none-turns (order a symbols counts) = refl
+none-turns (message a m) = refl
+
+turned-number : (isOrder : Bool) (s : List ℕ) (i : ℕ) → isOf (0 ∷ turningNumbers) (turnedAway isOrder s i) ≡ true
+unfolding turnedAway all any
+turned-number true s i = first-passes (isOf (0 ∷ turningNumbers)) (turnings true s i) refl refl
+turned-number false s i = first-passes (isOf (0 ∷ turningNumbers)) (turnings false s i) refl refl
+
+session-answers : (ns : List ℕ) → all (λ n. not (isOf turningNumbers n)) ns ≡ true → (a : OrderAnswer) → OrderAnswers ns a → (s t : List ℕ) (k : ℕ) → isOf (0 ∷ turningNumbers) k ≡ true
+    → SessionAnswers ns s (record { answer = outcome k a; session = changedBy k s t })
+unfolding outcome any
+session-answers ns none a h s t zero e =
+    record {
+      number = List·Memᴰ·tail (List·Memᴰ·tail (List·Memᴰ·tail (h .number)));
+      refusal = h .refusal;
+      unchanged = λ f. absurd (true≢false (sym f ∙ not-eq _ (passes (λ n. not (isOf turningNumbers n)) (a .number) ns none (h .number))));
+    }
+session-answers ns none a h s t (suc k) e = record { number = member-more (suc k) turningNumbers ns (not-zero k turningNumbers (member (suc k) (0 ∷ turningNumbers) e)); refusal = λ f. (refl, refl, refl); unchanged = λ f. refl }
+
+pub session-check : SessionCheck
+unfolding checkInSession
+session-check s i c = session-answers (callNumbers c) (none-turns c) (ownAnswer c) (call-answers c) s _ (turnedAway true s i) (turned-number true s i)
+
+release-number : (s : List ℕ) (i : ℕ) → isOf releaseNumbers (turnedAway false s i) ≡ true
+unfolding turnedAway all any
+release-number s i = first-passes (isOf releaseNumbers) (turnings false s i) refl refl
+
+release-answers : (s t : List ℕ) (k : ℕ) → isOf releaseNumbers k ≡ true → ReleaseAnswers s (record { number = k; session = changedBy k s t })
+release-answers s t zero e = record { number = List·Memᴰ·head refl; unchanged = λ f. absurd (true≢false (sym f)) }
+release-answers s t (suc k) e = record { number = member (suc k) releaseNumbers e; unchanged = λ f. refl }
+
+pub release : Release
+unfolding releaseLogin
+release s i = release-answers s _ (turnedAway false s i) (release-number s i)
+
+pub start : Start
+unfolding startSession firstOf
+start limits s = go (isWholeSession s) refl (eqb (length limits) 32 && all isLimitFor limits) refl
+  where
+    go : (a : Bool) → isWholeSession s ≡ a → (b : Bool) → eqb (length limits) 32 && all isLimitFor limits ≡ b → StartAnswers s (startSession limits s)
+    go false e b f = rw e (record { number = List·Memᴰ·tail (List·Memᴰ·head refl); unchanged = λ h. refl; zeros = λ h. absurd (omega (arith, h)) })
+    go true e true f = rw (e, f) (record { number = List·Memᴰ·head refl; unchanged = λ h. absurd (omega (arith, h)); zeros = λ h. absurd (omega (arith, h)) })
+    go true e false f = rw (e, f) (record { number = List·Memᴰ·tail (List·Memᴰ·tail (List·Memᴰ·head refl)); unchanged = λ h. absurd (omega (arith, h)); zeros = λ h. refl })
+
 pub numbered : Numbered
 unfolding all any
-numbered = record { listed = refl; given = refl; kinds = refl; placed = refl; sequenced = refl; orders = refl; messages = refl; quotes = refl }
+numbered = record { listed = refl; given = refl; kinds = refl; placed = refl; sequenced = refl; orders = refl; messages = refl; quotes = refl; turned = refl; releases = refl; starts = refl }

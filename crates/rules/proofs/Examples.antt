@@ -11,10 +11,10 @@ use Rattle.rules.specs.Checks.{putTest, callTest, simpleBuy, sizes, isBe
 use Rattle.rules.specs.Market.{isUnusable, elsewhereReference, reference, acceptableTicks, tickAt, limitDistance, isTooFar, tickDistance, settingsOf, marketOf, settingsHold, marketHolds}
 use Rattle.rules.specs.Numbers.{firstOf, isBadPrice, isBadShares, refusal, rejection, judged, outcome, checkLegs, checkSlices}
 use Rattle.rules.specs.Quote.{comparison, setDistance, isInverted, quoteInversion, isBadQuote, quoteRefusal, quoteRejection, quoteOutcome, checkQuote}
-use Rattle.rules.specs.Tally.{isBadTally}
+use Rattle.rules.specs.Tally.{isBroken, isBadTally}
 use Rattle.rules.specs.Examples.{Examples, Directions, Further}
 
 -- a definition that the examples reach and that is not named here keeps them from being computed, and the message does not name it
 pub examples : Examples × Directions × Further
-unfolding all any somePair every lex insert sort value numeral areDigits distance areSpaces isRootTail isRoot leapDay daysIn dayExists inLimits symbolOf partsOf isSymbol word rawLeg rawLegs priceOf legOf legsOf gcdWithin gcd commonDivisor units sharesOf hasShares isSimple pairOf matched reach walk byStrike byExpiry bothWalks isDebit isVertical isButterfly isBox shapeOf hasOwnClass allOf pairClass classWith putTest callTest simpleBuy sizes isBelow sharesOn sameSideBelow buyBuy debitCredit maximumOf allowance maximumValue isUnusable elsewhereReference reference acceptableTicks tickAt limitDistance isTooFar tickDistance settingsOf marketOf settingsHold marketHolds firstOf isBadPrice isBadShares refusal rejection judged outcome checkLegs checkSlices comparison setDistance isInverted quoteInversion isBadQuote quoteRefusal quoteRejection quoteOutcome checkQuote isBadTally
+unfolding all any somePair every lex insert sort value numeral areDigits distance areSpaces isRootTail isRoot leapDay daysIn dayExists inLimits symbolOf partsOf isSymbol word rawLeg rawLegs priceOf legOf legsOf gcdWithin gcd commonDivisor units sharesOf hasShares isSimple pairOf matched reach walk byStrike byExpiry bothWalks isDebit isVertical isButterfly isBox shapeOf hasOwnClass allOf pairClass classWith putTest callTest simpleBuy sizes isBelow sharesOn sameSideBelow buyBuy debitCredit maximumOf allowance maximumValue isUnusable elsewhereReference reference acceptableTicks tickAt limitDistance isTooFar tickDistance settingsOf marketOf settingsHold marketHolds firstOf isBadPrice isBadShares refusal rejection judged outcome checkLegs checkSlices comparison setDistance isInverted quoteInversion isBadQuote quoteRefusal quoteRejection quoteOutcome checkQuote isBroken isBadTally
 examples = (refl, refl, record { orders = refl; simple = refl; inverted = refl; last = refl; full = refl })

@@ -6,12 +6,15 @@ pub mod Symbols
 pub mod Numbering
 pub mod WithoutShares
 pub mod Handed
+pub mod Logins
+pub mod Turning
 pub mod Examples
 pub mod Edges
 pub mod Messages
 pub mod Pairs
 pub mod Figures
 pub mod StockOrders
+pub mod Sessions
 pub mod Demand1
 pub mod Demand2
 pub mod Tallying

@@ -1,10 +1,10 @@
 -- Demand 1, of each entry's definition: "gets one of document 01's numbers"; "A refusal brings its number with all other fields but a tally zero, and lent bytes keep their contents."
 use mathlib.Core.Path.{_≡_}
 use mathlib.Core.List.{List, [], _∷_, _++_, map, List·Memᴰ}
-use mathlib.Core.Bool.{true, cond, _&&_, _||_}
+use mathlib.Core.Bool.{true, false, cond, _&&_, _||_}
 use Prim.Native.Nat.{ℕ}
 use lib.Dec.{eqb}
-use lib.ListN.{drop}
+use lib.ListN.{drop, replicate}
 use lib.IntN.{pos}
 use Rattle.rules.specs.declared.SymbolParts.{SymbolParts}
 use Rattle.rules.specs.declared.SymbolRead.{SymbolRead}
@@ -29,6 +29,7 @@ use Rattle.rules.specs.Fix.{messageRefusals, MessageInputs, checkFix}
 use Rattle.rules.specs.Pair.{PairOrder, checkPair}
 use Rattle.rules.specs.WithoutShares.{optionRefusals, optionRejections}
 use Rattle.rules.specs.Tally.{Call, order, message, checkTallied}
+use Rattle.rules.specs.Session.{turnings, SessionAnswer, checkInSession, SessionLeft, releaseLogin, startRefusals, startSession}
 
 -- the symbol reader
 abbrev pub readerNumbers : List ℕ
@@ -129,18 +130,56 @@ callNumbers (message a m) = messageNumbers
 abbrev pub TalliedCheck : Type 0
 TalliedCheck = (t : Tally) (c : Call) → TalliedAnswers (callNumbers c) t (checkTallied t c)
 
+-- an order of a login (document 02, S-6), of the session that comes: a refusal's other fields but the session are zero, and what turns the order away leaves the session as it came
+abbrev pub turningNumbers : List ℕ
+turningNumbers = named (turnings true [] 0)
+
+pub record SessionAnswers (ns s : List ℕ) (r : SessionAnswer) : Type 0 where
+  pub number : List·Memᴰ (r .answer .number) (turningNumbers ++ ns)
+  pub refusal : isRefused (r .answer .number) ≡ true → (r .answer .class ≡ 0) × (r .answer .shape ≡ 0) × (r .answer .pairings ≡ 0)
+  pub unchanged : any (eqb (r .answer .number)) turningNumbers ≡ true → r .session ≡ s
+
+abbrev pub SessionCheck : Type 0
+SessionCheck = (s : List ℕ) (i : ℕ) (c : Call) → SessionAnswers (callNumbers c) s (checkInSession s i c)
+
+-- a release: a refused one leaves the session as it came
+abbrev pub releaseNumbers : List ℕ
+releaseNumbers = 0 ∷ named (turnings false [] 0)
+
+pub record ReleaseAnswers (s : List ℕ) (r : SessionLeft) : Type 0 where
+  pub number : List·Memᴰ (r .number) releaseNumbers
+  pub unchanged : isRefused (r .number) ≡ true → r .session ≡ s
+
+abbrev pub Release : Type 0
+Release = (s : List ℕ) (i : ℕ) → ReleaseAnswers s (releaseLogin s i)
+
+-- a start: 12 leaves the session as it came, 9 "an all-zero session"
+abbrev pub startNumbers : List ℕ
+startNumbers = 0 ∷ named (startRefusals [] [])
+
+pub record StartAnswers (s : List ℕ) (r : SessionLeft) : Type 0 where
+  pub number : List·Memᴰ (r .number) startNumbers
+  pub unchanged : r .number ≡ 12 → r .session ≡ s
+  pub zeros : r .number ≡ 9 → r .session ≡ replicate 192 0
+
+abbrev pub Start : Type 0
+Start = (limits s : List ℕ) → StartAnswers s (startSession limits s)
+
 -- "one of document 01's numbers", or of those that "join" them (document 02): `Kinds.numbers` lists those that the entries can give, and no other, each with its kind
 abbrev pub entryNumbers : List ℕ
-entryNumbers = readerNumbers ++ (writerNumbers ++ (orderNumbers ++ (messageNumbers ++ (12 ∷ quoteNumbers))))
+entryNumbers = readerNumbers ++ (writerNumbers ++ (orderNumbers ++ (messageNumbers ++ (turningNumbers ++ (releaseNumbers ++ (startNumbers ++ quoteNumbers))))))
 
 pub record Numbered : Type 0 where
   pub listed : all (λ n. any (λ e. eqb n (e .0)) numbers) entryNumbers ≡ true
   pub given : all (λ e. any (eqb (e .0)) entryNumbers) numbers ≡ true
   pub kinds : map (λ e. kindOf (e .0)) numbers ≡ map (λ e. e .1) numbers
-  -- each but 0 has its place in the sequence, and in that sequence they are tested; 12 comes before all that a tallied check can give
+  -- each but 0 has its place in the sequence, and in that sequence they are tested; 12 comes before all that a tallied check can give, and what turns a login's order away before all that its check can
   pub placed : all (λ e. eqb (e .0) 0 || any (eqb (e .0)) sequence) numbers ≡ true
-  pub sequenced : all (λ ns. keepsTo sequence (drop 1 ns)) (readerNumbers ∷ writerNumbers ∷ (0 ∷ 12 ∷ drop 1 orderNumbers) ∷ (0 ∷ 12 ∷ drop 1 messageNumbers) ∷ quoteNumbers ∷ []) ≡ true
-  -- which of them an order, a message and a quote can get, read off the documents once more
+  pub sequenced : all (λ ns. keepsTo sequence (drop 1 ns)) (readerNumbers ∷ writerNumbers ∷ (0 ∷ 12 ∷ drop 1 orderNumbers) ∷ (0 ∷ 12 ∷ drop 1 messageNumbers) ∷ (0 ∷ (turningNumbers ++ drop 1 orderNumbers)) ∷ (0 ∷ (turningNumbers ++ drop 1 messageNumbers)) ∷ releaseNumbers ∷ startNumbers ∷ quoteNumbers ∷ []) ≡ true
+  -- which of them an order, a message, a quote, a login's order or release and a start can get, read off the documents once more
   pub orders : orderNumbers ≡ 0 ∷ 1 ∷ 3 ∷ 4 ∷ 5 ∷ 6 ∷ 7 ∷ 8 ∷ 33 ∷ 9 ∷ 10 ∷ 20 ∷ 21 ∷ 22 ∷ 23 ∷ 24 ∷ 25 ∷ []
   pub messages : messageNumbers ≡ 0 ∷ 30 ∷ 31 ∷ 32 ∷ 3 ∷ 4 ∷ 5 ∷ 6 ∷ 7 ∷ 8 ∷ 9 ∷ 10 ∷ 20 ∷ 21 ∷ 22 ∷ 23 ∷ 24 ∷ 25 ∷ []
   pub quotes : quoteNumbers ≡ 0 ∷ 1 ∷ 4 ∷ 9 ∷ 10 ∷ 11 ∷ 20 ∷ 21 ∷ 26 ∷ []
+  pub turned : turningNumbers ≡ 34 ∷ 12 ∷ 35 ∷ []
+  pub releases : releaseNumbers ≡ 0 ∷ 34 ∷ 12 ∷ []
+  pub starts : startNumbers ≡ 0 ∷ 12 ∷ 9 ∷ []

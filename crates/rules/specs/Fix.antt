@@ -10,7 +10,7 @@ use Rattle.rules.specs.declared.Settings.{Settings}
 use Rattle.rules.specs.declared.Market.{Market}
 use Rattle.rules.specs.declared.OrderAnswer.{OrderAnswer}
 use Rattle.rules.specs.Limits.{within}
-use Rattle.rules.specs.Lists.{all, any, every, sameNumbers}
+use Rattle.rules.specs.Lists.{all, any, every, total, sameNumbers}
 use Rattle.rules.specs.Numerals.{value, numeral, areDigits}
 use Rattle.rules.specs.Symbol.{isDigit}
 use Rattle.rules.specs.Order.{termsOf}
@@ -70,11 +70,6 @@ version = 70 ∷ 73 ∷ 88 ∷ 46 ∷ 52 ∷ 46 ∷ 52 ∷ []
 
 abbrev pub multileg : List ℕ
 multileg = 65 ∷ 66 ∷ []
-
--- the sum of bytes
-unfoldable pub total : List ℕ → ℕ
-total [] = 0
-total (b ∷ bs) = b + total bs
 
 -- the sum's three digits
 abbrev pub sumDigits : List ℕ → List ℕ

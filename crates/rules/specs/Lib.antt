@@ -15,6 +15,7 @@ pub mod Valid
 pub mod Quote
 pub mod Fix
 pub mod Tally
+pub mod Session
 pub mod Pair
 pub mod OpenContracts
 pub mod WithoutShares
@@ -25,5 +26,6 @@ pub mod Messages
 pub mod Pairs
 pub mod Figures
 pub mod StockOrders
+pub mod Sessions
 pub mod Demand1
 pub mod Demand2

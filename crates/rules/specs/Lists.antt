@@ -1,7 +1,7 @@
 -- Tests on lists, and lists in another sequence. A help to the sections of document 01, of no section itself.
 use mathlib.Core.List.{List, [], _∷_}
 use mathlib.Core.Bool.{Bool, true, false, cond, not, _&&_, _||_}
-use Prim.Native.Nat.{ℕ}
+use Prim.Native.Nat.{ℕ, _+_}
 use lib.Dec.{eqb, ltb}
 
 -- both yes or both no
@@ -41,6 +41,11 @@ module _ {A : Type 0} (P : A → Type 0) where
 unfoldable pub every : List Bool → Bool
 every [] = true
 every (b ∷ bs) = b && every bs
+
+-- the sum of numbers
+unfoldable pub total : List ℕ → ℕ
+total [] = 0
+total (n ∷ ns) = n + total ns
 
 -- lists of the same numbers
 unfoldable pub sameNumbers : List ℕ → List ℕ → Bool

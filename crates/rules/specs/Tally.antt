@@ -11,9 +11,13 @@ use Rattle.rules.specs.Kinds.{isAccepted, isRejected, isRefused}
 use Rattle.rules.specs.Numbers.{refused, Inputs, answerTo}
 use Rattle.rules.specs.Fix.{MessageInputs, checkFix}
 
--- "12 a tally that has seen 1,000,000 or more, or whose seen is not refused, accepted and rejected together": the true sum, not that of a word
+-- a tally "whose seen is not refused, accepted and rejected together": the true sum, not that of a word
+unfoldable pub isBroken : Tally → Bool
+isBroken t = not (eqb (t .seen) (t .refused + t .accepted + t .rejected))
+
+-- "12 a tally that has seen 1,000,000 or more, or whose seen is not [..]"
 unfoldable pub isBadTally : Tally → Bool
-isBadTally t = leb 1000000 (t .seen) || not (eqb (t .seen) (t .refused + t .accepted + t .rejected))
+isBadTally t = leb 1000000 (t .seen) || isBroken t
 
 -- one more where the test holds
 abbrev pub oneMore : Bool → ℕ → ℕ

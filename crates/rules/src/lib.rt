@@ -131,7 +131,7 @@ pub struct QuoteAnswer {
     pub cancel: u64,
 }
 
-// A session's tally of order checks.
+// A tally of order checks.
 pub struct Tally {
     pub seen: u64,
     pub refused: u64,
@@ -143,6 +143,13 @@ pub struct Tally {
 pub struct TalliedAnswer {
     pub answer: OrderAnswer,
     pub tally: Tally,
+}
+
+// A login of a session: its limit of rejections, its tally, and its rejections since the start or its last release.
+pub struct Login {
+    pub limit: u64,
+    pub tally: Tally,
+    pub running: u64,
 }
 
 // One order of a pair: its own number, and 1 where it passes, else 0.

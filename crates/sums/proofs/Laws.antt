@@ -8,8 +8,7 @@ use native.Mathlib.Numerals.{add-one}
 use lib.Dec.{eqb}
 use lib.ListN.{length, getD}
 use lib.Seq.{slice, slice-cons, slice-empty}
-use Rattle.rules.specs.Lists.{sameNumbers}
-use Rattle.rules.specs.Fix.{total}
+use Rattle.rules.specs.Lists.{total, sameNumbers}
 use Rattle.rules.proofs.Slices.{whole-bytes}
 
 -- the bytes from `i` on are still to be added

@@ -5,9 +5,8 @@ use digits::byte_of;
 ghost use mathlib.Core.Path.{_≡_};
 ghost use Prim.Native.Nat.{_%_, _≤_, _<_};
 ghost use lib.ListN.{length, take};
-ghost use Rattle.rules.specs.Lists.{sameNumbers};
+ghost use Rattle.rules.specs.Lists.{total, sameNumbers};
 ghost use Rattle.rules.specs.Numerals.{numeral};
-ghost use Rattle.rules.specs.Fix.{total};
 
 // The sum modulo 256 of the bytes before the place `to`.
 pub fn sum_before(message: &[u8], to: usize) -> u64

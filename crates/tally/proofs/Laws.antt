@@ -4,42 +4,35 @@ use mathlib.Core.Bool.{Bool, true, false, not, _||_}
 use Prim.Native.Nat.{ℕ, _+_, _-_, _≤_, _<_}
 use native.Mathlib.Omega.{arith}
 use lib.Dec.{eqb, leb}
-use borrow.Author.Tests.{leb-false, eqb-true, eqb-false, eq-eqb, ne-eqb, le-leb, lt-leb, not-false}
+use borrow.Author.Tests.{leb-false, eqb-true, eqb-false, eq-eqb, ne-eqb, not-false}
 use Rattle.rules.specs.declared.OrderAnswer.{OrderAnswer}
 use Rattle.rules.specs.declared.Tally.{Tally}
 use Rattle.rules.specs.Numbers.{refused}
-use Rattle.rules.specs.Tally.{isBadTally, counted, tallied}
+use Rattle.rules.specs.Tally.{isBroken, isBadTally, counted, tallied}
 use Rattle.rules.proofs.Tests.{or-neither}
-
-or-true : (b : Bool) → b || true ≡ true
-or-true true = refl
-or-true false = refl
 
 module _ (t : Tally) where
   abbrev sum : ℕ
   sum = t .refused + t .accepted + t .rejected
 
-  pub full : 1000000 ≤ t .seen → isBadTally t ≡ true
-  unfolding isBadTally
-  full h = rw (le-leb 1000000 (t .seen) h)
+  pub broken : (t .seen ≡ sum → ⊥) → isBroken t ≡ true
+  unfolding isBroken
+  broken h = rw (ne-eqb (t .seen) sum h)
 
-  pub broken : (t .seen ≡ sum → ⊥) → isBadTally t ≡ true
-  unfolding isBadTally
-  broken h = rw (ne-eqb (t .seen) sum h) (or-true (leb 1000000 (t .seen)))
-
-  whole : t .seen < 1000000 → t .seen ≡ sum → isBadTally t ≡ false
-  unfolding isBadTally
-  whole h k = rw (lt-leb 1000000 (t .seen) h, eq-eqb (t .seen) sum k)
-
-  pub last-part : t .seen < 1000000 → t .refused ≤ t .seen → t .accepted ≤ t .seen - t .refused → not (eqb (t .seen - t .refused - t .accepted) (t .rejected)) ≡ isBadTally t
-  last-part h k l = go (eqb (t .seen - t .refused - t .accepted) (t .rejected)) refl
+  pub last-part : t .refused ≤ t .seen → t .accepted ≤ t .seen - t .refused → not (eqb (t .seen - t .refused - t .accepted) (t .rejected)) ≡ isBroken t
+  unfolding isBroken
+  last-part k l = go (eqb (t .seen - t .refused - t .accepted) (t .rejected)) refl
     where
-      go : (b : Bool) → eqb (t .seen - t .refused - t .accepted) (t .rejected) ≡ b → not b ≡ isBadTally t
-      go true e = sym (whole h (omega (arith, eqb-true (t .seen - t .refused - t .accepted) (t .rejected) e)))
+      go : (b : Bool) → eqb (t .seen - t .refused - t .accepted) (t .rejected) ≡ b → not b ≡ isBroken t
+      go true e = rw (eq-eqb (t .seen) sum (omega (arith, eqb-true (t .seen - t .refused - t .accepted) (t .rejected) e)))
       go false e = sym (broken (λ f. eqb-false (t .seen - t .refused - t .accepted) (t .rejected) e (omega arith)))
 
-  pub bounds : isBadTally t ≡ false → (t .seen < 1000000) × (t .seen ≡ sum)
+  pub either-bad : {r b : Bool} → b ≡ isBroken t → r ≡ leb 1000000 (t .seen) || b → r ≡ isBadTally t
   unfolding isBadTally
+  either-bad e f = cc
+
+  pub bounds : isBadTally t ≡ false → (t .seen < 1000000) × (t .seen ≡ sum)
+  unfolding isBadTally isBroken
   bounds h =
       let k = or-neither (leb 1000000 (t .seen)) _ h in
       (leb-false 1000000 (t .seen) (k .0), eqb-true (t .seen) sum (not-false _ (k .1)))

@@ -1,4 +1,4 @@
-// A session's tally: its own test, and what it makes of the answer to an order.
+// A tally: its own test, and what it makes of the answer to an order.
 use amounts::pick;
 use amounts::within;
 use answers::refused;
@@ -10,15 +10,12 @@ use rules::Tally;
 ghost use mathlib.Core.Path.{_≡_};
 ghost use mathlib.Core.Bool.{false};
 ghost use Prim.Native.Nat.{_≤_};
-ghost use Rattle.rules.specs.Tally.{isBadTally, oneMore, counted, tallied};
+ghost use Rattle.rules.specs.Tally.{isBroken, isBadTally, oneMore, counted, tallied};
 
-// Full, or broken. The three parts together might not fit a word, so they are taken from what was seen.
-fn is_bad_tally(t: Tally) -> bool
-    ensures { λ r. ⌜ r ≡ isBadTally t ⌝ }
+// Not the sum of its parts. The three together might not fit a word, so they are taken from what was seen.
+pub fn is_broken(t: Tally) -> bool
+    ensures { λ r. ⌜ r ≡ isBroken t ⌝ }
 {
-    if 1000000 <= t.seen {
-        return true;
-    }
     if t.seen < t.refused {
         return true;
     }
@@ -29,7 +26,14 @@ fn is_bad_tally(t: Tally) -> bool
     rest - t.accepted != t.rejected
 }
 
-fn one_more(b: bool, n: u64) -> u64
+// Full, or broken.
+fn is_bad_tally(t: Tally) -> bool
+    ensures { λ r. ⌜ r ≡ isBadTally t ⌝ }
+{
+    either(1000000 <= t.seen, is_broken(t))
+}
+
+pub fn one_more(b: bool, n: u64) -> u64
     requires { ⌜ n ≤ 1000000 ⌝ }
     ensures { λ r. ⌜ r ≡ oneMore b n ⌝ }
 {
@@ -37,7 +41,7 @@ fn one_more(b: bool, n: u64) -> u64
 }
 
 // One more seen, and one more of the number's kind.
-fn counted(t: Tally, number: u64) -> Tally
+pub fn counted(t: Tally, number: u64) -> Tally
     requires { ⌜ isBadTally t ≡ false ⌝ }
     ensures { λ r. ⌜ r ≡ counted t number ⌝ }
 {

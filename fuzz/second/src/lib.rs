@@ -16,6 +16,7 @@ use compare::{
     pair::{self, Pair, PairAnswer},
     quote::{Quote, QuoteAnswer},
     quote_check,
+    session::{self, After, Release, Sent, Start},
     tally::{self, Tallied, Tally},
     Parts,
 };
@@ -73,6 +74,13 @@ pub struct Terms {
     market_len: usize,
 }
 
+/// struct second_session.
+#[repr(C)]
+pub struct Session {
+    numbers: *mut u64,
+    length: usize,
+}
+
 unsafe fn lent<T: Clone>(pointer: *const T, length: usize) -> Vec<T> {
     match length {
         0 => Vec::new(),
@@ -120,6 +128,38 @@ unsafe fn quote(quote: &QuoteOf, terms: &Terms) -> Quote {
         settings: lent(terms.settings, terms.settings_len),
         market: lent(terms.market, terms.market_len),
     }
+}
+
+unsafe fn start(limits: *const u64, length: usize, session: &Session) -> Start {
+    Start {
+        limits: lent(limits, length),
+        session: lent(session.numbers, session.length),
+    }
+}
+
+unsafe fn sent<A>(login: u64, arrival: A, session: &Session) -> Sent<A> {
+    Sent {
+        login,
+        arrival,
+        session: lent(session.numbers, session.length),
+    }
+}
+
+unsafe fn release(login: u64, session: &Session) -> Release {
+    Release {
+        login,
+        session: lent(session.numbers, session.length),
+    }
+}
+
+/// Leaves the session as it is after a call; it is valid for writes.
+unsafe fn leave<G>(session: &Session, after: After<G>) -> G {
+    assert_eq!(after.session.len(), session.length);
+    if session.length > 0 {
+        let numbers = slice::from_raw_parts_mut(session.numbers, session.length);
+        numbers.copy_from_slice(&after.session);
+    }
+    after.given
 }
 
 #[no_mangle]
@@ -197,6 +237,42 @@ pub unsafe extern "C" fn second_check_quote(quote_of: &QuoteOf, terms: &Terms) -
     quote_check::check(&quote(quote_of, terms))
 }
 
+#[no_mangle]
+pub unsafe extern "C" fn second_start_session(
+    limits: *const u64,
+    length: usize,
+    session: &Session,
+) -> u64 {
+    leave(session, session::start(&start(limits, length, session)))
+}
+
+#[no_mangle]
+pub unsafe extern "C" fn second_check_order_session(
+    login: u64,
+    order: &Order,
+    terms: &Terms,
+    session: &Session,
+) -> Answer {
+    let sent = sent(login, arrival(order, terms), session);
+    leave(session, session::check(&sent))
+}
+
+#[no_mangle]
+pub unsafe extern "C" fn second_check_fix_session(
+    login: u64,
+    fix: &Fix,
+    terms: &Terms,
+    session: &Session,
+) -> Answer {
+    let sent = sent(login, message(fix, terms), session);
+    leave(session, session::check(&sent))
+}
+
+#[no_mangle]
+pub unsafe extern "C" fn second_release_login(login: u64, session: &Session) -> u64 {
+    leave(session, session::release(&release(login, session)))
+}
+
 fn print<C: Case>(case: &C) {
     eprintln!("{}\n  COMPARE_CASE='{case}'", case.described());
 }
@@ -229,4 +305,34 @@ pub unsafe extern "C" fn second_print_pair(pair_of: &PairOf, terms: &Terms) {
 #[no_mangle]
 pub unsafe extern "C" fn second_print_quote(quote_of: &QuoteOf, terms: &Terms) {
     print(&quote(quote_of, terms));
+}
+
+#[no_mangle]
+pub unsafe extern "C" fn second_print_start(limits: *const u64, length: usize, session: &Session) {
+    print(&start(limits, length, session));
+}
+
+#[no_mangle]
+pub unsafe extern "C" fn second_print_order_session(
+    login: u64,
+    order: &Order,
+    terms: &Terms,
+    session: &Session,
+) {
+    print(&sent(login, arrival(order, terms), session));
+}
+
+#[no_mangle]
+pub unsafe extern "C" fn second_print_fix_session(
+    login: u64,
+    fix: &Fix,
+    terms: &Terms,
+    session: &Session,
+) {
+    print(&sent(login, message(fix, terms), session));
+}
+
+#[no_mangle]
+pub unsafe extern "C" fn second_print_release(login: u64, session: &Session) {
+    print(&release(login, session));
 }

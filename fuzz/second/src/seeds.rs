@@ -4,7 +4,7 @@
 use compare::{
     arrival::Arrival,
     cases,
-    generate::{self, legs_of, list_of, reversed},
+    generate::{self, legs_of, list_of, reversed, sessions},
     osi,
     pair::Pair,
     quote::Quote,
@@ -18,9 +18,13 @@ const RAW_CASES: usize = 100;
 const SHAPED_ROUNDS: usize = 400;
 
 /// As many bytes as the shaped form takes for most calls; a message takes more than its order, and so
-/// does a pair.
+/// does a pair; a sequence of calls over a session takes more than a message.
 const SHAPED_BYTES: usize = 120;
 const SHAPED_LONG_BYTES: usize = 180;
+const SHAPED_SEQUENCE_BYTES: usize = 240;
+
+/// In the raw form these many bytes choose the calls after the first over a session.
+const NEXT_CALLS_BYTES: usize = 40;
 
 /// The second byte of an input: 0 is the raw form. The third chooses how the call is made.
 const SHAPED: u8 = 1;
@@ -34,6 +38,10 @@ const QUOTE: u8 = 6;
 const FIX: u8 = 8;
 const FIX_TALLIED: u8 = 11;
 const PAIR: u8 = 12;
+const START: u8 = 14;
+const ORDER_SESSION: u8 = 15;
+const FIX_SESSION: u8 = 16;
+const RELEASE: u8 = 17;
 
 /// Writes one file for each seed.
 ///
@@ -78,6 +86,10 @@ fn all() -> Vec<Vec<u8>> {
         let symbol = legs_of(&list_of(&mut random, 1))[0].0;
         seeds.push(read(&symbol));
         seeds.push(write(&osi::read(&symbol).parts));
+        let arrival = generate::arrival(&mut random);
+        for entry in [START, ORDER_SESSION, FIX_SESSION, RELEASE] {
+            seeds.push(in_session(&mut random, entry, &arrival));
+        }
     }
     for _ in 0..SHAPED_ROUNDS {
         for entry in [READ, WRITE, ORDER, ORDER, ORDER, TALLIED, QUOTE, QUOTE] {
@@ -86,6 +98,10 @@ fn all() -> Vec<Vec<u8>> {
         }
         for entry in [FIX, FIX, FIX_TALLIED, PAIR, PAIR] {
             let bytes = random.bytes(SHAPED_LONG_BYTES);
+            seeds.push([&[entry, SHAPED], &bytes[..]].concat());
+        }
+        for entry in [START, ORDER_SESSION, FIX_SESSION, RELEASE] {
+            let bytes = random.bytes(SHAPED_SEQUENCE_BYTES);
             seeds.push([&[entry, SHAPED], &bytes[..]].concat());
         }
     }
@@ -160,6 +176,34 @@ fn tallied_message(arrival: &Arrival, tally: [u64; 4]) -> Vec<u8> {
     let mut seed = message(arrival);
     seed[0] = FIX_TALLIED;
     numbers(&mut seed, &tally);
+    seed
+}
+
+/// Each with a byte before it that says how many bytes it has.
+fn short_numbers(seed: &mut Vec<u8>, numbers: &[u64]) {
+    for number in numbers {
+        let length = 8 - number.leading_zeros() as usize / 8;
+        seed.push(length as u8);
+        seed.extend(&number.to_le_bytes()[..length]);
+    }
+}
+
+fn in_session(random: &mut Random, entry: u8, arrival: &Arrival) -> Vec<u8> {
+    let mut seed = match entry {
+        FIX_SESSION => message(arrival),
+        _ => order(arrival),
+    };
+    seed[0] = entry;
+    numbers(&mut seed, &[sessions::login(random)]);
+    let (limits, mut session) = (sessions::limits(random), sessions::session(random));
+    if random.index(4) == 0 {
+        sessions::damage_session(random, &mut session);
+    }
+    seed.push(limits.len() as u8);
+    short_numbers(&mut seed, &limits);
+    seed.extend((session.len() as u16).to_le_bytes());
+    short_numbers(&mut seed, &session);
+    seed.extend(random.bytes(NEXT_CALLS_BYTES));
     seed
 }
 

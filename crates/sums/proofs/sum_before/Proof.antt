@@ -5,7 +5,7 @@ use Prim.Native.Nat.{_+_, _-_, _%_, _<_, _≤_}
 use native.Mathlib.Omega.{arith}
 use lib.ListN.{take}
 use lib.Seq.{slice}
-use Rattle.rules.specs.Fix.{total}
+use Rattle.rules.specs.Lists.{total}
 use Rattle.sums.proofs.Laws.{sum-turn, sum-end}
 use Rattle.sums.proofs.sum_before.Statement.{statement}
 use Rattle.sums.proofs.sum_before.Tie as tie

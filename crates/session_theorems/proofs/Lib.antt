@@ -1,0 +1,9 @@
+pub mod Steps
+pub mod Goodness
+pub mod Starts
+pub mod Alone
+pub mod Tallies
+pub mod Totals
+pub mod Restriction
+pub mod Running
+pub mod Sessions
