@@ -12,7 +12,7 @@
 /* Rows that the logins of one session share. */
 #define SHAPED_ROWS 4
 
-/* Mostly one of four, that one comes to its limit; else any, or one that there is not. */
+/* Mostly one of four, so that some login reaches its limit; else any, or one that there is not. */
 static inline uint64_t shaped_login(struct input *in) {
     static const uint64_t few[] = {0, 1, 7, OPC_LOGINS - 1};
     static const uint64_t beyond[] = {OPC_LOGINS, OPC_LOGINS + 1,        40,

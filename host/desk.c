@@ -329,12 +329,12 @@ static bool are_some_given(const struct given *given) {
 }
 
 static void print_rows(const struct opc_session *session) {
-    printf("  login  limit     seen  refused  accepted  rejected  since release\n");
+    printf("  login  limit     seen  refused  accepted  rejected  running\n");
     for (size_t i = 0; i < OPC_LOGINS; i++) {
         const struct opc_login *login = &session->logins[i];
         const struct opc_tally *tally = &login->tally;
         printf("  %5zu  %5" PRIu64 "  %7" PRIu64 "  %7" PRIu64 "  %8" PRIu64 "  %8" PRIu64
-               "  %13" PRIu64 "%s\n",
+               "  %7" PRIu64 "%s\n",
                i, login->limit, tally->seen, tally->refused, tally->accepted, tally->rejected,
                login->running, opc_is_restricted(login) ? "  restricted" : "");
     }
@@ -534,10 +534,10 @@ static void answer_login(struct desk *desk, const struct request *request) {
 static void answer_release(struct desk *desk, uint64_t login) {
     uint64_t number = opc_answer_release(login, &desk->logins.session);
     desk->all_accepted = desk->all_accepted && number == OPC_ACCEPTED;
-    printf("%" PRIu64 ": release: ", desk->line_number);
+    printf("%" PRIu64 ": release %" PRIu64 ": ", desk->line_number, login);
     print_verdict(number, &desk->terms);
     if (number == OPC_ACCEPTED) {
-        printf("; login %" PRIu64 " is not restricted", login);
+        printf("; login %" PRIu64 "'s rejections count from 0", login);
     }
     end_login_answer(&desk->logins, login, number);
 }

@@ -33,6 +33,7 @@ static const struct step session_steps[] = {
     {"release", 1, 0, 0},
     {"paid for", 1, 1500, LEGS},
     {"no such login", 32, 1500, LEGS},
+    {"and its release", 32, 0, 0},
 };
 
 /* One more order can be counted, then none. */

@@ -471,12 +471,12 @@ static uint64_t any_login(void) {
     return one_in(64) ? no_logins[below(COUNT(no_logins))] : below(OPC_LOGINS);
 }
 
-/* A session with small limits by chance, started by the library. */
-static struct made_session any_start(uint64_t most) {
+/* A session with limits up to most by chance but the one login's, started by the library. */
+static struct made_session any_start(uint64_t most, uint64_t login, uint64_t limit) {
     struct made_session made = whole(random_session());
     uint64_t limits[OPC_LOGINS];
     for (size_t i = 0; i < OPC_LOGINS; i++) {
-        limits[i] = between(1, most);
+        limits[i] = i == login ? limit : between(1, most);
     }
     expect(opc_answer_start(limits, &made.session) == OPC_ACCEPTED, "a start");
     return made;
@@ -502,7 +502,7 @@ static void test_random_calls(void) {
     uint64_t given = 0;
     for (size_t list = 0; list < LISTS; list++) {
         struct counts counts[OPC_LOGINS] = {{OPC_FRESH_TALLY, 0}};
-        struct made_session made = any_start(list % 2 == 0 ? 3 : 30);
+        struct made_session made = any_start(list % 2 == 0 ? 3 : 30, OPC_LOGINS, 0);
         for (size_t i = 0; i < RANDOM_CASES / LISTS; i++) {
             struct call call = any_call(any_login());
             uint64_t number = expect_call(&call, &made).number;
@@ -534,9 +534,8 @@ static void call_others(uint64_t login, struct made_session *made) {
 /* A login with one limit and the same calls in two sessions, in which others do what they like. */
 static void test_isolation(void) {
     for (size_t list = 0; list < LISTS; list++) {
-        struct made_session one = any_start(3), other = any_start(20);
         uint64_t login = list % OPC_LOGINS, limit = between(1, 3);
-        one.session.logins[login].limit = other.session.logins[login].limit = limit;
+        struct made_session one = any_start(3, login, limit), other = any_start(20, login, limit);
         for (size_t i = 0; i < RANDOM_CASES / LISTS / 8; i++) {
             call_others(login, &one);
             call_others(login, &other);

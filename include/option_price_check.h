@@ -14,8 +14,8 @@
  * length beside it, and is NULL only with length 0; a slice of numbers and a session are aligned to
  * 8 bytes, and their length is the number of numbers; a pointer to a lent number is valid and never
  * NULL; the lent numbers of one call are distinct, and neither they nor its session share memory
- * with each other, its slices or its buffer. So too an inline function, whose pointers to structs
- * are valid and never NULL.
+ * with each other, its slices or its buffer; nobody else reads or writes a session while a call has
+ * it. So too an inline function, whose pointers to structs are valid and never NULL.
  *
  * For C11 or C++11, on x86-64; of the C library it needs no more than a freestanding one has.
  */
@@ -606,8 +606,8 @@ struct opc_login {
 };
 
 /*
- * The host keeps the session and lends it to each call. opc_start_session makes it; without that,
- * or where that was refused, it is no right one.
+ * The host keeps the session and lends it to each call. After opc_start_session gave OPC_ACCEPTED
+ * it is a right one; where that was refused it is none.
  */
 struct opc_session {
     struct opc_login logins[OPC_LOGINS];
@@ -615,9 +615,9 @@ struct opc_session {
 
 /* Numbers alone, six for each login: a pointer to the struct is one to the session's numbers. */
 OPC_STATIC_ASSERT(sizeof(struct opc_login) * OPC_LOGINS == OPC_SESSION_COUNT * sizeof(uint64_t),
-                  "the session");
+                  "a login is six numbers");
 OPC_STATIC_ASSERT(sizeof(struct opc_session) == OPC_SESSION_COUNT * sizeof(uint64_t),
-                  "the session");
+                  "a session is 192 numbers");
 
 /* Whether the login is restricted; it says nothing where the session is no right one. */
 static inline int opc_is_restricted(const struct opc_login *login) {

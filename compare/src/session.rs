@@ -1,7 +1,7 @@
 //! A session of 32 logins (document 02, S-6): what a start, an order of a login and a release are
 //! handed and leave, a line of text for each, and the second implementation. There a login is not
 //! kept as its row of numbers: it has so many rejections left until it is restricted, and so many
-//! that were forgiven by releases. A row of which that cannot be said is a wrong one.
+//! that no longer count after releases. A row of which that cannot be said is a wrong one.
 
 use crate::{
     arrival::{Answer, Arrival},
@@ -79,7 +79,7 @@ pub fn release(release: &Release) -> After<u64> {
     match admitted(release.login, &release.session, false) {
         Ok(logins) => After {
             given: ACCEPTED,
-            session: with(logins, release.login, Login::forgive),
+            session: with(logins, release.login, Login::release),
         },
         Err(number) => After {
             given: number,
@@ -149,7 +149,7 @@ struct Login {
     refused: u64,
     accepted: u64,
     /// The rejections before its last release.
-    forgiven: u64,
+    past: u64,
     /// The rejections until it is restricted.
     left: u64,
 }
@@ -163,7 +163,7 @@ impl Login {
             limit,
             refused,
             accepted,
-            forgiven: rejected.checked_sub(running)?,
+            past: rejected.checked_sub(running)?,
             left: limit.checked_sub(running)?,
         };
         let is_right = LIMITS.contains(&limit) && one.seen() == seen.into();
@@ -171,7 +171,7 @@ impl Login {
     }
 
     fn seen(&self) -> u128 {
-        let kinds = [self.refused, self.accepted, self.forgiven, self.running()];
+        let kinds = [self.refused, self.accepted, self.past, self.running()];
         kinds.map(u128::from).iter().sum()
     }
 
@@ -187,13 +187,13 @@ impl Login {
         }
     }
 
-    fn forgive(&mut self) {
-        self.forgiven += self.running();
+    fn release(&mut self) {
+        self.past += self.running();
         self.left = self.limit;
     }
 
     fn row(&self) -> Row {
-        let rejected = self.forgiven + self.running();
+        let rejected = self.past + self.running();
         let seen = self.refused + self.accepted + rejected;
         let running = self.running();
         [

@@ -58,8 +58,8 @@ fn row(random: &mut Random, limit: u64, most: u64) -> Row {
         2 => 0,
         _ => random.between(0, limit),
     };
-    let [refused, accepted, forgiven] = [0; 3].map(|_| random.between(0, most));
-    let rejected = forgiven + running;
+    let [refused, accepted, past] = [0; 3].map(|_| random.between(0, most));
+    let rejected = past + running;
     let seen = refused + accepted + rejected;
     [limit, seen, refused, accepted, rejected, running]
 }

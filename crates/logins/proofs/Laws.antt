@@ -1,7 +1,7 @@
 -- A login's six numbers, read from their places and stored there one after another; the test of a login, part by part.
 use mathlib.Core.Path.{_≡_, refl, sym, ap, _∙_}
 use mathlib.Core.Bool.{Bool, true, false, not, _||_}
-use mathlib.Core.List.{List, _∷_, [], _++_, append-assoc}
+use mathlib.Core.List.{List, append-assoc}
 use Prim.Native.Nat.{ℕ, suc, _+_, _*_, _≤_}
 use native.Mathlib.Omega.{arith}
 use lib.Dec.{ltb}
@@ -9,10 +9,9 @@ use lib.ListN.{length, take, drop, set, getD}
 use lib.Seq.{sets, sets-eq}
 use Rattle.rules.specs.declared.Login.{Login}
 use Rattle.rules.specs.declared.Tally.{Tally}
-use Rattle.rules.specs.Limits.{within}
 use Rattle.rules.specs.Kinds.{isRejected}
 use Rattle.rules.specs.Tally.{isBroken, oneMore, counted}
-use Rattle.rules.specs.Session.{loginAt, loginNumbers, withLogin, isBadLogin, countedLogin}
+use Rattle.rules.specs.Session.{loginAt, loginNumbers, withLogin, isRejectionLimit, isBadLogin, countedLogin}
 
 pub read-login : (s : List ℕ) (i : ℕ)
     → record {
@@ -39,9 +38,9 @@ stored-login s i l h =
     ∙ sets-eq (loginNumbers l) s (6 * i) h
     ∙ append-assoc (take (6 * i) s) (loginNumbers l) (drop (6 * i + 6) s)
 
-module _ (l : Login) {inside outside : Bool} (within-limits : inside ≡ within 1 10000 (l .limit)) (other : outside ≡ not inside) where
-  outside-limits : outside ≡ not (within 1 10000 (l .limit))
-  outside-limits = other ∙ ap not within-limits
+module _ (l : Login) {inside outside : Bool} (in-range : inside ≡ isRejectionLimit (l .limit)) (other : outside ≡ not inside) where
+  outside-limits : outside ≡ not (isRejectionLimit (l .limit))
+  outside-limits = other ∙ ap not in-range
 
   pub bad-limit : outside ≡ true → true ≡ isBadLogin l
   unfolding isBadLogin

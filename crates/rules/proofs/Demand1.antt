@@ -28,7 +28,7 @@ use Rattle.rules.specs.Symbol.{partsOf}
 use Rattle.rules.specs.Quote.{quoteRefusals, quoteRefusal, quoteRejections, quoteRejection, answeredQuote, quoteOutcome, checkQuote}
 use Rattle.rules.specs.Fix.{messageRefusals, messageRefusal, SaidOrder, orderIn, bodyOf, checkSaid, checkFix}
 use Rattle.rules.specs.Tally.{isBadTally, tallied, Call, order, message, ownAnswer, checkTallied}
-use Rattle.rules.specs.Session.{isWholeSession, isLimitFor, turnings, turnedAway, changedBy, checkInSession, releaseLogin, startSession}
+use Rattle.rules.specs.Session.{isWholeSession, isRejectionLimit, turnings, turnedAway, changedBy, checkInSession, releaseLogin, startSession}
 use Rattle.rules.specs.WithoutShares.{optionRefusals, optionRejections, optionsJudged, checkOptions}
 use Rattle.rules.specs.Demand1.{readerNumbers, Reader, writerNumbers, Writer, legNumbers, orderNumbers, OrderAnswers, OrderCheck, optionNumbers, messageNumbers, MessageCheck, quoteNumbers, QuoteAnswers, QuoteCheck, TalliedAnswers, callNumbers, TalliedCheck, turningNumbers, SessionAnswers, SessionCheck, releaseNumbers, ReleaseAnswers, Release, StartAnswers, Start, Numbered}
 use Rattle.rules.proofs.Tests.{and-both, not-eq, same-eq}
@@ -270,9 +270,9 @@ release s i = release-answers s _ (turnedAway false s i) (release-number s i)
 
 pub start : Start
 unfolding startSession firstOf
-start limits s = go (isWholeSession s) refl (eqb (length limits) 32 && all isLimitFor limits) refl
+start limits s = go (isWholeSession s) refl (eqb (length limits) 32 && all isRejectionLimit limits) refl
   where
-    go : (a : Bool) → isWholeSession s ≡ a → (b : Bool) → eqb (length limits) 32 && all isLimitFor limits ≡ b → StartAnswers s (startSession limits s)
+    go : (a : Bool) → isWholeSession s ≡ a → (b : Bool) → eqb (length limits) 32 && all isRejectionLimit limits ≡ b → StartAnswers s (startSession limits s)
     go false e b f = rw e (record { number = List·Memᴰ·tail (List·Memᴰ·head refl); unchanged = λ h. refl; zeros = λ h. absurd (omega (arith, h)) })
     go true e true f = rw (e, f) (record { number = List·Memᴰ·head refl; unchanged = λ h. absurd (omega (arith, h)); zeros = λ h. absurd (omega (arith, h)) })
     go true e false f = rw (e, f) (record { number = List·Memᴰ·tail (List·Memᴰ·tail (List·Memᴰ·head refl)); unchanged = λ h. absurd (omega (arith, h)); zeros = λ h. refl })

@@ -17,4 +17,4 @@ use Rattle.rules.specs.Sessions.{Sessions}
 
 pub sessions : Sessions
 unfolding all any somePair every lex insert sort value numeral areDigits distance areSpaces isRootTail isRoot leapDay daysIn dayExists inLimits symbolOf partsOf isSymbol word rawLeg rawLegs priceOf legOf legsOf gcdWithin gcd commonDivisor units sharesOf hasShares isSimple pairOf matched reach walk byStrike byExpiry bothWalks isDebit isVertical isButterfly isBox shapeOf hasOwnClass allOf pairClass classWith putTest callTest simpleBuy sizes isBelow sharesOn sameSideBelow buyBuy debitCredit maximumOf allowance maximumValue isUnusable elsewhereReference reference acceptableTicks tickAt limitDistance isTooFar tickDistance settingsOf marketOf settingsHold marketHolds firstOf isBadPrice isBadShares refusal rejection judged outcome checkLegs checkSlices fieldsOf bytesOf areFields hasFrame messageRefusal checkFix isBroken counted total loginAt withLogin loginsFrom isBadLogin isBadSession inAll turnedAway checkInSession releaseLogin sessionOf startSession
-sessions = record { logins = refl; sessions = refl; limit = refl; turned = refl; orders = refl; releases = refl; starts = refl }
+sessions = record { places = refl; written = refl; counting = refl; logins = refl; sessions = refl; limit = refl; turned = refl; orders = refl; releases = refl; starts = refl }

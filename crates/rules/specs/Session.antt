@@ -36,19 +36,21 @@ unfoldable pub loginsFrom : ℕ → ℕ → List ℕ → List Login
 loginsFrom zero i s = []
 loginsFrom (suc n) i s = loginAt s i ∷ loginsFrom n (suc i) s
 
+-- all 32
 abbrev pub logins : List ℕ → List Login
 logins s = loginsFrom 32 0 s
 
+-- as many numbers as 32 logins have
 abbrev pub isWholeSession : List ℕ → Bool
 isWholeSession s = eqb (length s) 192
 
 -- "Each login has its own rejection limit, 1 to 10,000"
-abbrev pub isLimitFor : ℕ → Bool
-isLimitFor n = within 1 10000 n
+abbrev pub isRejectionLimit : ℕ → Bool
+isRejectionLimit n = within 1 10000 n
 
 -- "a limit outside its range, a tally whose seen is not its other three together, or a running number above its limit or its rejected"
 unfoldable pub isBadLogin : Login → Bool
-isBadLogin l = not (isLimitFor (l .limit)) || (isBroken (l .tally) || (ltb (l .limit) (l .running) || ltb (l .tally .rejected) (l .running)))
+isBadLogin l = not (isRejectionLimit (l .limit)) || (isBroken (l .tally) || (ltb (l .limit) (l .running) || ltb (l .tally .rejected) (l .running)))
 
 -- of any of the 32 logins; a session of another length is none
 unfoldable pub isBadSession : List ℕ → Bool
@@ -78,7 +80,7 @@ turnings isOrder s i = (ltb 31 i, 34) ∷ (getsTwelve isOrder s, 12) ∷ cond is
 unfoldable pub turnedAway : Bool → List ℕ → ℕ → ℕ
 turnedAway isOrder s i = firstOf (turnings isOrder s i)
 
--- a call's number decides: 0 changes the session, and whatever turns the call away does not
+-- where nothing turned the call away (0) the session is the changed one, else the one that came
 abbrev pub changedBy : ℕ → List ℕ → List ℕ → List ℕ
 changedBy zero s changed = changed
 changedBy (suc n) s changed = s
@@ -107,6 +109,7 @@ pub record SessionLeft : Type 0 where
 abbrev pub releasedLogin : Login → Login
 releasedLogin l = record { limit = l .limit; tally = l .tally; running = 0 }
 
+-- a release of login `i`
 unfoldable pub releaseLogin : List ℕ → ℕ → SessionLeft
 releaseLogin s i =
     let n = turnedAway false s i in
@@ -123,9 +126,10 @@ sessionOf (limit ∷ limits) = loginNumbers (freshLogin limit) ++ sessionOf limi
 
 -- "starting a session with another value gives 9 and an all-zero session"; limits that are not 32 are other values, and a session of another length gets 12 before and stays as it is
 abbrev pub startRefusals : List ℕ → List ℕ → List (Bool × ℕ)
-startRefusals limits s = (not (isWholeSession s), 12) ∷ (not (eqb (length limits) 32 && all isLimitFor limits), 9) ∷ []
+startRefusals limits s = (not (isWholeSession s), 12) ∷ (not (eqb (length limits) 32 && all isRejectionLimit limits), 9) ∷ []
 
+-- a start, by its number
 unfoldable pub startSession : List ℕ → List ℕ → SessionLeft
 startSession limits s =
     let n = firstOf (startRefusals limits s) in
-    record { number = n; session = cond (isWholeSession s) (cond (eqb n 0) (sessionOf limits) (replicate 192 0)) s }
+    record { number = n; session = cond (eqb n 12) s (cond (eqb n 0) (sessionOf limits) (replicate 192 0)) }

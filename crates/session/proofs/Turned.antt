@@ -9,7 +9,7 @@ use lib.ListN.{length}
 use borrow.Author.Tests.{ne-eqb}
 use Rattle.rules.specs.declared.Login.{Login}
 use Rattle.rules.specs.Tally.{isBadTally}
-use Rattle.rules.specs.Session.{loginAt, withLogin, isBadSession, getsTwelve, turnedAway, countedLogin, releasedLogin, releaseLogin}
+use Rattle.rules.specs.Session.{loginAt, withLogin, isBadSession, isRestricted, getsTwelve, turnedAway, countedLogin, releasedLogin, releaseLogin}
 use Rattle.rules.proofs.Turning.{gets-12, gets-35, admitted, good, good-login, countable}
 
 module _ (isOrder : Bool) (s : List ℕ) (i : ℕ) (here : i ≤ 31) where
@@ -17,8 +17,21 @@ module _ (isOrder : Bool) (s : List ℕ) (i : ℕ) (here : i ≤ 31) where
   unfolding isBadSession
   other-length h = sym (gets-12 isOrder s i here (rw (ne-eqb (length s) 192 h)))
 
-  pub restriction : {l : Login} {r : Bool} → getsTwelve isOrder s ≡ false → l ≡ loginAt s i → r ≡ isOrder && leb (l .limit) (l .running) → cond r 35 0 ≡ turnedAway isOrder s i
-  restriction h read e = sym (gets-35 isOrder s i here h ∙ ap (λ (b : Bool). cond b 35 0) (sym (e ∙ ap (λ (l : Login). isOrder && leb (l .limit) (l .running)) read)))
+  pub tested : {twelve restricted : Bool} {l : Login} {last n : ℕ}
+      → twelve ≡ getsTwelve isOrder s
+      → l ≡ loginAt s i
+      → restricted ≡ isOrder && leb (l .limit) (l .running)
+      → last ≡ cond restricted 35 0
+      → n ≡ cond twelve 12 last
+      → n ≡ turnedAway isOrder s i
+  tested {last = last} {n = n} t read r e f = go (getsTwelve isOrder s) refl
+    where
+      restricted : last ≡ cond (isOrder && isRestricted (loginAt s i)) 35 0
+      restricted = e ∙ ap (λ (b : Bool). cond b 35 0) (r ∙ ap (λ (l : Login). isOrder && isRestricted l) read)
+
+      go : (b : Bool) → getsTwelve isOrder s ≡ b → n ≡ turnedAway isOrder s i
+      go true h = f ∙ ap (λ (b : Bool). cond b 12 last) (t ∙ h) ∙ sym (gets-12 isOrder s i here h)
+      go false h = f ∙ ap (λ (b : Bool). cond b 12 last) (t ∙ h) ∙ restricted ∙ sym (gets-35 isOrder s i here h)
 
 -- a login that nothing turns away has its place
 pub placed : (isOrder : Bool) (s : List ℕ) (i : ℕ) → turnedAway isOrder s i ≡ 0 → (i < 32) × (length s ≡ 192)

@@ -1,4 +1,5 @@
 // A session of 32 logins: what turns a call away, an order that is counted, and a release.
+use amounts::pick;
 use choice::both;
 use logins::counted_login;
 use logins::is_bad_login;
@@ -11,7 +12,7 @@ ghost use Prim.Native.Nat.{_-_};
 ghost use lib.ListN.{length};
 ghost use Rattle.rules.specs.Session.{loginAt, withLogin, getsTwelve, turnedAway, countedLogin, releaseLogin};
 
-// What is left of a room; none where as much or more is taken.
+// What is left of a number where another is taken from it; none where there is not as much.
 fn left_of(room: u64, taken: u64) -> u64
     ensures { λ r. ⌜ r ≡ room - taken ⌝ }
 {
@@ -21,8 +22,9 @@ fn left_of(room: u64, taken: u64) -> u64
     room - taken
 }
 
-// Some login is bad; or, to an order, there is no room for one more. What all logins have seen might not fit a word, so
-// it is taken from the room that the session begins with.
+// Some login is bad; or, to an order, there is no room for one more: how many the session may still tally. What all
+// logins have seen might not fit a word, so it is taken from the room that a session begins with. Where an order finds
+// none, the other logins make no difference.
 fn gets_twelve(is_order: bool, session: &[u64]) -> bool
     requires { ⌜ length (now session) ≡ 192 ⌝ }
     ensures { λ r. ⌜ r ≡ getsTwelve «is_order» (now (session .entry)) ⌝ }
@@ -53,14 +55,10 @@ pub fn turned_away(is_order: bool, session: &[u64], login: u64) -> u64
     if session.len() != 192 {
         return 12;
     }
-    if gets_twelve(is_order, session) {
-        return 12;
-    }
+    let twelve = gets_twelve(is_order, session);
     let l = login_at(session, login as usize);
-    if both(is_order, l.limit <= l.running) {
-        return 35;
-    }
-    0
+    let restricted = both(is_order, l.limit <= l.running);
+    pick(twelve, 12, pick(restricted, 35, 0))
 }
 
 // Counts an order that was not turned away, by the number that it got.

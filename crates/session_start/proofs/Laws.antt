@@ -1,48 +1,48 @@
 -- Limits tested one after another; a session filled login by login; and a start, by the two lengths and the limits.
 use mathlib.Core.Path.{_≡_, refl, sym, ap, _∙_}
 use mathlib.Core.List.{List, [], _∷_, _++_, append-assoc, append-nil}
-use mathlib.Core.Bool.{Bool, true, false, not, cond, _&&_}
-use Prim.Native.Nat.{ℕ, suc, _+_, _*_, _≤_, _<_}
+use mathlib.Core.Bool.{Bool, true, false, not, _&&_}
+use Prim.Native.Nat.{ℕ, _+_, _*_, _≤_, _<_}
 use native.Mathlib.Omega.{arith}
 use native.Mathlib.Numerals.{add-one}
 use lib.Dec.{eqb}
 use lib.ListN.{length, take, drop, getD, replicate, drop-of-length-le}
-use lib.Seq.{length-take-le, take-suc, take-all, drop-cons, take-at, drop-at, drop-append-add, drop-drop}
+use lib.Seq.{length-take-le, take-suc, take-all, drop-cons, take-at, drop-append-add, drop-drop}
 use borrow.Author.Tests.{eqb-true, eq-eqb, ne-eqb, not-false}
 use Rattle.rules.specs.declared.Login.{Login}
 use Rattle.rules.specs.Lists.{all}
 use Rattle.rules.specs.Numbers.{firstOf}
-use Rattle.rules.specs.Session.{loginNumbers, withLogin, isLimitFor, freshLogin, sessionOf, startSession}
+use Rattle.rules.specs.Session.{loginNumbers, withLogin, isRejectionLimit, freshLogin, sessionOf, startSession}
 use Rattle.rules.proofs.Tests.{and-both, not-eq}
 use Rattle.rules.proofs.Logins.{length-session}
 
 -- ---- limits
 
 module _ (ns : List ℕ) where
-  pub limits-other : (length ns ≡ 32 → ⊥) → false ≡ eqb (length ns) 32 && all isLimitFor ns
+  pub limits-other : (length ns ≡ 32 → ⊥) → false ≡ eqb (length ns) 32 && all isRejectionLimit ns
   limits-other h = rw (ne-eqb (length ns) 32 h)
 
-  pub limits-some : {b : Bool} → b ≡ eqb (length ns) 32 && all isLimitFor ns → b ≡ true → length ns ≡ 32
+  pub limits-some : {b : Bool} → b ≡ eqb (length ns) 32 && all isRejectionLimit ns → b ≡ true → length ns ≡ 32
   limits-some e h = eqb-true (length ns) 32 (and-both (eqb (length ns) 32) _ (sym e ∙ h) .0)
 
-  module _ (some : length ns ≡ 32) (i : ℕ) (so : all isLimitFor ns ≡ all isLimitFor (drop i ns)) where
+  module _ (some : length ns ≡ 32) (i : ℕ) (so : all isRejectionLimit ns ≡ all isRejectionLimit (drop i ns)) where
     -- by the limit at `i`
-    limits-next : i < 32 → all isLimitFor ns ≡ isLimitFor (getD ns i 0) && all isLimitFor (drop (i + 1) ns)
+    limits-next : i < 32 → all isRejectionLimit ns ≡ isRejectionLimit (getD ns i 0) && all isRejectionLimit (drop (i + 1) ns)
     unfolding all
-    limits-next h = so ∙ rw add-one (ap (all isLimitFor) (drop-cons ns i 0 (omega arith)))
+    limits-next h = so ∙ rw add-one (ap (all isRejectionLimit) (drop-cons ns i 0 (omega arith)))
 
-    module _ (more : i < 32) {b n : Bool} (tested : b ≡ isLimitFor (getD ns i 0)) (negated : n ≡ not b) where
-      pub limits-turn : n ≡ false → all isLimitFor ns ≡ all isLimitFor (drop (i + 1) ns)
-      limits-turn e = let k : isLimitFor (getD ns i 0) ≡ true = sym tested ∙ not-false b (sym negated ∙ e) in limits-next more ∙ ap (λ (b : Bool). b && all isLimitFor (drop (i + 1) ns)) k
+    module _ (more : i < 32) {b n : Bool} (tested : b ≡ isRejectionLimit (getD ns i 0)) (negated : n ≡ not b) where
+      pub limits-turn : n ≡ false → all isRejectionLimit ns ≡ all isRejectionLimit (drop (i + 1) ns)
+      limits-turn e = let k : isRejectionLimit (getD ns i 0) ≡ true = sym tested ∙ not-false b (sym negated ∙ e) in limits-next more ∙ ap (λ (b : Bool). b && all isRejectionLimit (drop (i + 1) ns)) k
 
-      pub limits-bad : n ≡ true → false ≡ eqb (length ns) 32 && all isLimitFor ns
+      pub limits-bad : n ≡ true → false ≡ eqb (length ns) 32 && all isRejectionLimit ns
       limits-bad e =
-          let k : isLimitFor (getD ns i 0) ≡ false = sym tested ∙ not-eq b (sym negated ∙ e) in
-          rw (eq-eqb (length ns) 32 some) (sym (limits-next more ∙ ap (λ (b : Bool). b && all isLimitFor (drop (i + 1) ns)) k))
+          let k : isRejectionLimit (getD ns i 0) ≡ false = sym tested ∙ not-eq b (sym negated ∙ e) in
+          rw (eq-eqb (length ns) 32 some) (sym (limits-next more ∙ ap (λ (b : Bool). b && all isRejectionLimit (drop (i + 1) ns)) k))
 
-    pub limits-end : 32 ≤ i → true ≡ eqb (length ns) 32 && all isLimitFor ns
+    pub limits-end : 32 ≤ i → true ≡ eqb (length ns) 32 && all isRejectionLimit ns
     unfolding all
-    limits-end h = rw (eq-eqb (length ns) 32 some) (sym (so ∙ ap (all isLimitFor) (drop-of-length-le ns {i = i} (omega arith))))
+    limits-end h = rw (eq-eqb (length ns) 32 some) (sym (so ∙ ap (all isRejectionLimit) (drop-of-length-le ns {i = i} (omega arith))))
 
 -- ---- logins
 
@@ -101,7 +101,7 @@ module _ (limits s : List ℕ) where
   unfolding startSession firstOf
   start-other h = rw (ne-eqb (length s) 192 h) (refl, refl)
 
-  module _ (whole : length s ≡ 192) {b : Bool} (tested : b ≡ eqb (length limits) 32 && all isLimitFor limits) {t : List ℕ} where
+  module _ (whole : length s ≡ 192) {b : Bool} (tested : b ≡ eqb (length limits) 32 && all isRejectionLimit limits) {t : List ℕ} where
     pub start-done : b ≡ true → t ≡ sessionOf limits → (0 ≡ startSession limits s .number) × (t ≡ startSession limits s .session)
     unfolding startSession firstOf
     start-done h e = rw (eq-eqb (length s) 192 whole, sym tested ∙ h) (refl, e)

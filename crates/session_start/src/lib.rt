@@ -1,6 +1,6 @@
 // The start of a session: 32 limits, and a fresh login for each.
-use amounts::within;
 use choice::negated;
+use logins::is_limit;
 use logins::place_login;
 use rules::Login;
 use rules::Tally;
@@ -9,17 +9,18 @@ ghost use mathlib.Core.Bool.{_&&_};
 ghost use lib.Dec.{eqb};
 ghost use lib.ListN.{length};
 ghost use Rattle.rules.specs.Lists.{all};
-ghost use Rattle.rules.specs.Session.{isLimitFor, sessionOf, startSession};
+ghost use Rattle.rules.specs.Session.{isRejectionLimit, sessionOf, startSession};
 
+// Whether there are 32, each within its range.
 fn are_limits(limits: &[u64]) -> bool
-    ensures { λ r. ⌜ r ≡ eqb (length (now (limits .entry))) 32 && all isLimitFor (now (limits .entry)) ⌝ }
+    ensures { λ r. ⌜ r ≡ eqb (length (now (limits .entry))) 32 && all isRejectionLimit (now (limits .entry)) ⌝ }
 {
     if limits.len() != 32 {
         return false;
     }
     let mut i = 0;
     while i < 32 {
-        if negated(within(1, 10000, limits[i])) {
+        if negated(is_limit(limits[i])) {
             return false;
         }
         i += 1;
@@ -49,7 +50,7 @@ fn fill(limits: &[u64], session: &mut [u64])
     }
 }
 
-// Starts a session. Other limits leave it all zero: no login has a limit, and each call of it gets 12.
+// Starts a session. Other limits leave it all zero: no login has a limit, and each call of a login 0 to 31 gets 12.
 pub fn start(limits: &[u64], session: &mut [u64]) -> u64
     ensures { λ r. ⌜ r ≡ startSession (now (limits .entry)) (now (session .entry)) .number ⌝ }
     ensures { λ _. ⌜ now (session .exit) ≡ startSession (now (limits .entry)) (now (session .entry)) .session ⌝ }

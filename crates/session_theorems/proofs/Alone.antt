@@ -8,7 +8,7 @@ use borrow.Author.Tests.{ltb-false, eqb-true, not-true}
 use Rattle.rules.specs.declared.Login.{Login}
 use Rattle.rules.specs.declared.OrderAnswer.{OrderAnswer}
 use Rattle.rules.specs.Numbers.{firstOf, outcome}
-use Rattle.rules.specs.Session.{loginAt, isLimitFor, isBadSession, isFull, isRestricted, turnedAway, freshLogin, startSession}
+use Rattle.rules.specs.Session.{loginAt, isRejectionLimit, isBadSession, isFull, isRestricted, turnedAway, freshLogin, startSession}
 use Rattle.rules.proofs.Tests.{and-both}
 use Rattle.session_theorems.specs.Calls.{SessionCall, loginOf, isOrder, answered, after, sessionAfter, isBeforeLimit, isOf, ownCalls, ownAnswers}
 use Rattle.session_theorems.specs.Sessions.{Isolation}
@@ -18,7 +18,7 @@ use Rattle.session_theorems.proofs.Starts.{start}
 
 -- every login of the all-zero session, and none of another
 abbrev hasNoLimit : Login → Bool
-hasNoLimit l = not (isLimitFor (l .limit))
+hasNoLimit l = not (isRejectionLimit (l .limit))
 
 or-none : (a o b : Bool) → b ≡ false → a || o && b ≡ a
 or-none true o b h = refl
@@ -58,7 +58,7 @@ module _ (i : ℕ) where
       ∙ first-same (ltb 31 i) (isBadSession s || isOrder c && isFull s) (hasNoLimit (loginAt s i)) _ (λ a. or-none (isBadSession s) (isOrder c) (isFull s) f ∙ k (ltb-false 31 i a))
 
   uniform-after : (s : List ℕ) (c : SessionCall) → IsUniform s → IsUniform (after s c)
-  uniform-after s c k l = bad-after s c ∙ k l ∙ ap (λ (n : ℕ). not (isLimitFor n)) (sym (limit-after s c i))
+  uniform-after s c k l = bad-after s c ∙ k l ∙ ap (λ (n : ℕ). not (isRejectionLimit n)) (sym (limit-after s c i))
 
   alone : (s : List ℕ) (cs : List SessionCall) → IsUniform s → isBeforeLimit s cs ≡ true
       → (ownAnswers i s cs ≡ answersAlone (loginAt s i) (ownCalls i cs)) × (loginAt (sessionAfter s cs) i ≡ leftAlone (loginAt s i) (ownCalls i cs))

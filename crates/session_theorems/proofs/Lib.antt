@@ -1,3 +1,4 @@
+pub mod Cases
 pub mod Steps
 pub mod Goodness
 pub mod Starts

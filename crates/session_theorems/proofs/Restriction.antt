@@ -4,18 +4,19 @@ use mathlib.Core.List.{List, [], _∷_}
 use mathlib.Core.Bool.{Bool, true, false, cond, not, _&&_, _||_, true≢false}
 use Prim.Native.Nat.{ℕ, _≤_, _<_}
 use native.Mathlib.Omega.{arith}
-use lib.Dec.{ltb}
+use lib.Dec.{eqb, ltb}
 use borrow.Author.Tests.{le-ltb, eqb-true}
 use Rattle.rules.specs.declared.OrderAnswer.{OrderAnswer}
 use Rattle.rules.specs.Lists.{all}
 use Rattle.rules.specs.Numbers.{firstOf, refused, outcome}
 use Rattle.rules.specs.Tally.{Call, ownAnswer}
 use Rattle.rules.specs.Session.{loginAt, isBadSession, isFull, isRestricted, turnedAway, checkInSession, releaseLogin}
-use Rattle.rules.proofs.Tests.{and-both, and-of}
+use Rattle.rules.proofs.Tests.{and-both, and-of, not-eq}
 use Rattle.rules.proofs.Turning.{gets-34}
-use Rattle.session_theorems.specs.Calls.{SessionCall, ordered, loginOf, isOrder, answered, after, sessionAfter, isOf, orderNumbersOf, ownNumbers, turnsAway, hasNoRelease}
-use Rattle.session_theorems.specs.Sessions.{Next}
+use Rattle.session_theorems.specs.Calls.{SessionCall, ordered, released, loginOf, isOrder, answered, after, sessionAfter, isBeforeLimit, isOf, orderNumbersOf, ownNumbers, turnsAway, hasNoRelease}
+use Rattle.session_theorems.specs.Sessions.{Restricted, Next}
 use Rattle.session_theorems.proofs.Steps.{isTaken, taken, answer-is, taken-answer, away-answer, stepped, login-after}
+use Rattle.session_theorems.proofs.Goodness.{bad-after}
 use Rattle.session_theorems.proofs.Tallies.{not-away}
 
 -- ---- of any session: what is not turned away gets what the order check gives
@@ -106,6 +107,50 @@ module _ (u : List ℕ) (good : isBadSession u ≡ false) (i : ℕ) where
   unfolding outcome
   free-answer c l r f = answer-of c ∙ rw (le-ltb 31 i l, f, r) refl
 
+-- ---- until its release
+
+module _ (i : ℕ) (here : i ≤ 31) (f : ℕ → Bool) (K : List ℕ → List SessionCall → Type 0) (step : (s : List ℕ) (c : SessionCall) (cs : List SessionCall) → K s (c ∷ cs) → (f (cond (isFull s) 12 35) ≡ true) × K (after s c) cs) where
+  numbers-until : (s : List ℕ) (ds : List SessionCall) → isBadSession s ≡ false → isRestricted (loginAt s i) ≡ true → hasNoRelease i ds ≡ true → K s ds → all f (ownNumbers i s ds) ≡ true
+  unfolding all orderNumbersOf hasNoRelease sessionAfter
+  numbers-until s [] g r h k = refl
+  numbers-until s (c ∷ cs) g r h k =
+      head c (isOf i c) refl
+      ∙ numbers-until (after s c) cs (bad-after s c ∙ g) (ap isRestricted stays ∙ r) (both .1) (step s c cs k .1)
+    where
+      both : (isOrder c || not (isOf i c) ≡ true) × (hasNoRelease i cs ≡ true)
+      both = and-both _ _ h
+
+      stays : loginAt (after s c) i ≡ loginAt s i
+      stays = until-release i s (c ∷ []) r (and-of (both .0) refl) .1
+
+      ns : List ℕ
+      ns = ownNumbers i (after s c) cs
+
+      head : (d : SessionCall) (b : Bool) → isOf i d ≡ b → all f (cond (isOrder d && b) (answered s d .number ∷ ns) ns) ≡ all f ns
+      head (ordered j d) true e =
+          let given : answered s (ordered j d) .number ≡ cond (isFull s) 12 35 =
+          ap (λ (n : ℕ). checkInSession s n d .answer .number) (eqb-true j i e) ∙ ap (λ (a : OrderAnswer). a .number) (restricted-answer s g i d here r)
+          in
+          ap (λ (b : Bool). b && all f ns) (ap f given ∙ step s c cs k .0)
+      head (ordered j d) false e = refl
+      head (released j) b e = refl
+
+restricted-over : (u : List ℕ) → isBadSession u ≡ false → (i : ℕ) (ds : List SessionCall) → i ≤ 31 → isRestricted (loginAt u i) ≡ true → hasNoRelease i ds ≡ true → Restricted i u ds
+unfolding isBeforeLimit
+restricted-over u good i ds l r h =
+    record {
+      numbers = numbers-until i l (λ n. eqb n 35 || eqb n 12) (λ s cs. Unit {0}) (λ s c cs k. (either (isFull s), tt)) u ds good r h tt;
+      before =
+          numbers-until i l (λ n. eqb n 35) (λ s cs. isBeforeLimit s cs ≡ true)
+          (λ s c cs k. let e = and-both (not (isFull s)) (isBeforeLimit (after s c) cs) k in (ap (λ (b : Bool). eqb (cond b 12 35) 35) (not-eq (isFull s) (e .0)), e .1))
+          u ds good r h;
+      part = until-release i u ds r h .1;
+    }
+  where
+    either : (b : Bool) → eqb (cond b 12 35) 35 || eqb (cond b 12 35) 12 ≡ true
+    either true = refl
+    either false = refl
+
 pub next : (u : List ℕ) → isBadSession u ≡ false → Next u
 unfolding releaseLogin
 next u good =
@@ -115,6 +160,6 @@ next u good =
       full = full-answer u good;
       release = release-turned u good;
       restricted = restricted-answer u good;
-      until = λ i. until-release i u;
+      until = restricted-over u good;
       free = free-answer u good;
     }

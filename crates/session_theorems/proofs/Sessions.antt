@@ -9,10 +9,10 @@ use Rattle.session_theorems.specs.Calls.{SessionCall, sessionAfter}
 use Rattle.session_theorems.specs.Sessions.{Kept, SessionTheorem}
 use Rattle.session_theorems.proofs.Steps.{others}
 use Rattle.session_theorems.proofs.Goodness.{bad-kept, limit-kept}
-use Rattle.session_theorems.proofs.Starts.{Opened, opened}
+use Rattle.session_theorems.proofs.Starts.{start, Opened, opened}
 use Rattle.session_theorems.proofs.Alone.{isolation}
 use Rattle.session_theorems.proofs.Tallies.{own-tallies}
-use Rattle.session_theorems.proofs.Totals.{in-all}
+use Rattle.session_theorems.proofs.Totals.{short-lists, in-all}
 use Rattle.session_theorems.proofs.Restriction.{same, beyond, next}
 use Rattle.session_theorems.proofs.Running.{running-is}
 
@@ -26,6 +26,7 @@ pub session-theorem : SessionTheorem
 session-theorem =
     record {
       isolation = isolation;
+      short = λ limits lent w. let s = startSession limits lent .session in short-lists s (λ i. ap (λ (l : Login). l .tally .seen) (start limits lent w .fresh i));
       kept = λ limits lent h. kept limits (startSession limits lent .session) (opened limits lent h);
       next = λ limits lent h cs. let s = startSession limits lent .session in next (sessionAfter s cs) (bad-kept s cs ∙ opened limits lent h .good);
       tallied = λ limits lent h cs. in-all (startSession limits lent .session) cs (λ i. ap (λ (l : Login). l .tally .seen) (opened limits lent h .login i));

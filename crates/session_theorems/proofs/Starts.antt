@@ -12,7 +12,7 @@ use Rattle.rules.specs.declared.Login.{Login}
 use Rattle.rules.specs.Lists.{all, any}
 use Rattle.rules.specs.Numbers.{firstOf}
 use Rattle.rules.specs.Tally.{isBroken}
-use Rattle.rules.specs.Session.{loginAt, loginsFrom, isWholeSession, isLimitFor, isBadLogin, isBadSession, freshLogin, sessionOf, startSession}
+use Rattle.rules.specs.Session.{loginAt, loginsFrom, isWholeSession, isRejectionLimit, isBadLogin, isBadSession, freshLogin, sessionOf, startSession}
 use Rattle.rules.proofs.Tests.{and-both, within-both}
 use Rattle.rules.proofs.Logins.{length-session, login-started, login-beyond}
 use Rattle.rules.proofs.Turning.{is-good}
@@ -21,7 +21,7 @@ use Rattle.session_theorems.proofs.Goodness.{not-bad}
 -- ---- which session a start leaves
 
 abbrev areLimits : List ℕ → Bool
-areLimits limits = eqb (length limits) 32 && all isLimitFor limits
+areLimits limits = eqb (length limits) 32 && all isRejectionLimit limits
 
 -- the limits that count: all 0 where they are refused
 abbrev limitsIn : Bool → List ℕ → List ℕ
@@ -31,7 +31,7 @@ session-is : (limits lent : List ℕ) → isWholeSession lent ≡ true → start
 unfolding startSession firstOf sessionOf
 session-is limits lent h = go (isWholeSession lent) (areLimits limits) h
   where
-    go : (w b : Bool) → w ≡ true → cond w (cond (eqb (firstOf ((not w, 12) ∷ (not b, 9) ∷ [])) 0) (sessionOf limits) (replicate 192 0)) lent ≡ sessionOf (limitsIn b limits)
+    go : (w b : Bool) → w ≡ true → let n = firstOf ((not w, 12) ∷ (not b, 9) ∷ []) in cond (eqb n 12) lent (cond (eqb n 0) (sessionOf limits) (replicate 192 0)) ≡ sessionOf (limitsIn b limits)
     go true true h = refl
     go true false h = refl
     go false b h = absurd (true≢false (sym h))
@@ -64,14 +64,14 @@ all-at f (x ∷ xs) zero h l = and-both (f x) (all f xs) h .0
 all-at f (x ∷ xs) (suc j) h l = all-at f xs j (and-both (f x) (all f xs) h .1) (le-of-suc-le-suc l)
 
 module _ (limits : List ℕ) (h : areLimits limits ≡ true) where
-  abbrev both : (eqb (length limits) 32 ≡ true) × (all isLimitFor limits ≡ true)
-  both = and-both (eqb (length limits) 32) (all isLimitFor limits) h
+  abbrev both : (eqb (length limits) 32 ≡ true) × (all isRejectionLimit limits ≡ true)
+  both = and-both (eqb (length limits) 32) (all isRejectionLimit limits) h
 
   count : length limits ≡ 32
   count = eqb-true (length limits) 32 (both .0)
 
-  limit-holds : (i : ℕ) → i ≤ 31 → isLimitFor (getD limits i 0) ≡ true
-  limit-holds i l = let n = count in all-at isLimitFor limits i (both .1) (omega (arith, n))
+  limit-holds : (i : ℕ) → i ≤ 31 → isRejectionLimit (getD limits i 0) ≡ true
+  limit-holds i l = let n = count in all-at isRejectionLimit limits i (both .1) (omega (arith, n))
 
   good-start : isBadSession (sessionOf limits) ≡ false
   unfolding isBroken
@@ -91,11 +91,11 @@ no-limits = refl
 
 pub record Start (s : List ℕ) : Type 0 where
   pub fresh : (i : ℕ) → loginAt s i ≡ freshLogin (loginAt s i .limit)
-  pub bad : (i : ℕ) → i ≤ 31 → isBadSession s ≡ not (isLimitFor (loginAt s i .limit))
+  pub bad : (i : ℕ) → i ≤ 31 → isBadSession s ≡ not (isRejectionLimit (loginAt s i .limit))
 
 -- with limits that hold throughout, or nowhere
-start-of : (limits : List ℕ) (b : Bool) → ((i : ℕ) → i ≤ 31 → isLimitFor (getD limits i 0) ≡ b) → isBadSession (sessionOf limits) ≡ not b → Start (sessionOf limits)
-start-of limits b h k = record { fresh = λ i. login-of limits i ∙ ap freshLogin (sym (limit i)); bad = λ i l. k ∙ ap not (sym (ap isLimitFor (limit i) ∙ h i l)) }
+start-of : (limits : List ℕ) (b : Bool) → ((i : ℕ) → i ≤ 31 → isRejectionLimit (getD limits i 0) ≡ b) → isBadSession (sessionOf limits) ≡ not b → Start (sessionOf limits)
+start-of limits b h k = record { fresh = λ i. login-of limits i ∙ ap freshLogin (sym (limit i)); bad = λ i l. k ∙ ap not (sym (ap isRejectionLimit (limit i) ∙ h i l)) }
   where
     limit : (i : ℕ) → loginAt (sessionOf limits) i .limit ≡ getD limits i 0
     limit i = ap (λ (l : Login). l .limit) (login-of limits i)
@@ -105,7 +105,7 @@ start limits lent w = rw (session-is limits lent (eq-eqb (length lent) 192 w)) (
   where
     go : (b : Bool) → areLimits limits ≡ b → Start (sessionOf (limitsIn b limits))
     go true e = start-of limits true (limit-holds limits e) (good-start limits e)
-    go false e = start-of (replicate 32 0) false (λ i l. ap isLimitFor (getD-replicate 32 i 0 0 (omega arith))) no-limits
+    go false e = start-of (replicate 32 0) false (λ i l. ap isRejectionLimit (getD-replicate 32 i 0 0 (omega arith))) no-limits
 
 -- ---- a start that gave 0
 

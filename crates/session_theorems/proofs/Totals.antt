@@ -1,17 +1,18 @@
 -- Orders tallied in all over lists of calls: one more with each that is not turned away.
 use mathlib.Core.Path.{_≡_, refl, sym, ap, _∙_}
-use mathlib.Core.List.{List, map}
+use mathlib.Core.List.{List, [], _∷_, map}
 use mathlib.Core.Bool.{Bool, true, false, not, _&&_}
 use Prim.Native.Nat.{ℕ, zero, suc, _+_, _≤_, _<_}
 use native.Mathlib.Omega.{arith}
 use lib.Dec.{eqb}
-use borrow.Author.Tests.{eqb-true, eqb-false, eq-eqb}
+use lib.ListN.{length}
+use borrow.Author.Tests.{eqb-true, eqb-false, eq-eqb, lt-leb}
 use Rattle.rules.specs.declared.Login.{Login}
 use Rattle.rules.specs.Lists.{total}
 use Rattle.rules.specs.Tally.{oneMore, howMany}
 use Rattle.rules.specs.Session.{loginAt, loginsFrom, inAll}
-use Rattle.rules.proofs.Tests.{and-no}
-use Rattle.session_theorems.specs.Calls.{SessionCall, loginOf, isOrder, answered, after, sessionAfter, allNumbers, turnsAway}
+use Rattle.rules.proofs.Tests.{and-no, and-of}
+use Rattle.session_theorems.specs.Calls.{SessionCall, loginOf, isOrder, answered, after, sessionAfter, isBeforeLimit, allNumbers, turnsAway}
 use Rattle.session_theorems.proofs.Steps.{isTaken, taken, away-answer, away-session, others}
 use Rattle.session_theorems.proofs.Tallies.{measured, login-step, seen-step}
 
@@ -79,6 +80,23 @@ none-in-all s h = go 32 0
     go : (n a : ℕ) → total (map seen (loginsFrom n a s)) ≡ 0
     go zero a = refl
     go (suc n) a = let x = h a in let y = go n (suc a) in omega (arith, x, y)
+
+-- ---- the session limit, by the number of calls
+
+at-most : (b : Bool) (x : ℕ) → oneMore b x ≤ x + 1
+at-most true x = omega arith
+at-most false x = omega arith
+
+below-limit : (s : List ℕ) (cs : List SessionCall) → inAll s + length cs ≤ 1000000 → isBeforeLimit s cs ≡ true
+unfolding isBeforeLimit
+below-limit s [] h = refl
+below-limit s (c ∷ cs) h =
+    let step = in-all-step s c in
+    let most = at-most (isOrder c && true && not (turnsAway (answered s c .number))) (inAll s) in
+    and-of (ap not (lt-leb 1000000 (inAll s) (omega arith))) (below-limit (after s c) cs (omega (arith, step, most)))
+
+pub short-lists : (s : List ℕ) → ((i : ℕ) → seen (loginAt s i) ≡ 0) → (cs : List SessionCall) → length cs ≤ 1000000 → isBeforeLimit s cs ≡ true
+short-lists s none cs h = let z = none-in-all s none in below-limit s cs (omega (arith, z))
 
 -- from a session without any
 pub in-all : (s : List ℕ) (cs : List SessionCall) → ((i : ℕ) → seen (loginAt s i) ≡ 0) → inAll (sessionAfter s cs) ≡ howMany (λ n. not (turnsAway n)) (allNumbers s cs)

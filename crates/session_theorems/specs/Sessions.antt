@@ -1,10 +1,10 @@
 -- Document 02, S-6: what is promised of every list of orders and releases from a session's start.
 use mathlib.Core.Path.{_≡_}
 use mathlib.Core.List.{List}
-use mathlib.Core.Bool.{true, false, cond, not, _&&_}
+use mathlib.Core.Bool.{true, false, cond, not, _&&_, _||_}
 use Prim.Native.Nat.{ℕ, _≤_, _<_}
 use lib.ListN.{length, getD}
-use lib.Dec.{leb, ltb}
+use lib.Dec.{eqb, leb, ltb}
 use Rattle.rules.specs.Lists.{all}
 use Rattle.rules.specs.Kinds.{isAccepted, isRejected, isRefused}
 use Rattle.rules.specs.Numbers.{refused}
@@ -34,7 +34,7 @@ pub record OwnTally (i : ℕ) (s : List ℕ) (cs : List SessionCall) : Type 0 wh
   pub accepted : loginAt (sessionAfter s cs) i .tally .accepted ≡ howMany isAccepted (ownNumbers i s cs)
   pub rejected : loginAt (sessionAfter s cs) i .tally .rejected ≡ howMany isRejected (ownNumbers i s cs)
 
--- login `i` after the calls `cs` from a start with `limits` that gave 0; `u` is the session that they leave
+-- login `i` after the calls `cs` from a start with `limits` that gave 0
 pub record Kept (limits : List ℕ) (s : List ℕ) (cs : List SessionCall) (i : ℕ) : Type 0 where
   -- "fixed for the session"
   pub limit : loginAt (sessionAfter s cs) i .limit ≡ getD limits i 0
@@ -43,6 +43,12 @@ pub record Kept (limits : List ℕ) (s : List ℕ) (cs : List SessionCall) (i : 
   pub running : loginAt (sessionAfter s cs) i .running ≡ sinceRelease i s cs 0
   -- "At that many rejections [..] it is restricted"
   pub restricted : isRestricted (loginAt (sessionAfter s cs) i) ≡ leb (getD limits i 0) (sinceRelease i s cs 0)
+
+-- a restricted login over calls without its release: 35, or 12 once the session limit is reached, and its part of the session stays
+pub record Restricted (i : ℕ) (u : List ℕ) (ds : List SessionCall) : Type 0 where
+  pub numbers : all (λ n. eqb n 35 || eqb n 12) (ownNumbers i u ds) ≡ true
+  pub before : isBeforeLimit u ds ≡ true → all (λ n. eqb n 35) (ownNumbers i u ds) ≡ true
+  pub part : loginAt (sessionAfter u ds) i ≡ loginAt u i
 
 -- what a session `u` that was reached gives to the next call
 pub record Next (u : List ℕ) : Type 0 where
@@ -54,13 +60,14 @@ pub record Next (u : List ℕ) : Type 0 where
   -- a restricted login's order gets 35, 12 once the session limit is reached
   pub restricted : (i : ℕ) (c : Call) → i ≤ 31 → isRestricted (loginAt u i) ≡ true → checkInSession u i c .answer ≡ refused (cond (isFull u) 12 35)
   -- "until the host releases it"
-  pub until : (i : ℕ) (ds : List SessionCall) → isRestricted (loginAt u i) ≡ true → hasNoRelease i ds ≡ true
-      → (all turnsAway (ownNumbers i u ds) ≡ true) × (loginAt (sessionAfter u ds) i ≡ loginAt u i)
+  pub until : (i : ℕ) (ds : List SessionCall) → i ≤ 31 → isRestricted (loginAt u i) ≡ true → hasNoRelease i ds ≡ true → Restricted i u ds
   -- any other's order gets what the order check gives, before the session limit
   pub free : (i : ℕ) (c : Call) → i ≤ 31 → isRestricted (loginAt u i) ≡ false → isFull u ≡ false → checkInSession u i c .answer ≡ ownAnswer c
 
 pub record SessionTheorem : Type 0 where
   pub isolation : Isolation
+  -- its condition holds of every list of up to 1,000,000 calls
+  pub short : (limits lent : List ℕ) → length lent ≡ 192 → (cs : List SessionCall) → length cs ≤ 1000000 → isBeforeLimit (startSession limits lent .session) cs ≡ true
   -- from every start that gave 0
   pub kept : (limits lent : List ℕ) → startSession limits lent .number ≡ 0 → (cs : List SessionCall) (i : ℕ) → Kept limits (startSession limits lent .session) cs i
   pub next : (limits lent : List ℕ) → startSession limits lent .number ≡ 0 → (cs : List SessionCall) → Next (sessionAfter (startSession limits lent .session) cs)

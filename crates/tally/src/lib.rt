@@ -10,6 +10,7 @@ use rules::Tally;
 ghost use mathlib.Core.Path.{_≡_};
 ghost use mathlib.Core.Bool.{false};
 ghost use Prim.Native.Nat.{_≤_};
+ghost use Rattle.rules.specs.Kinds.{isRejected};
 ghost use Rattle.rules.specs.Tally.{isBroken, isBadTally, oneMore, counted, tallied};
 
 // Not the sum of its parts. The three together might not fit a word, so they are taken from what was seen.
@@ -33,11 +34,19 @@ fn is_bad_tally(t: Tally) -> bool
     either(1000000 <= t.seen, is_broken(t))
 }
 
+// One more where a test holds.
 pub fn one_more(b: bool, n: u64) -> u64
     requires { ⌜ n ≤ 1000000 ⌝ }
     ensures { λ r. ⌜ r ≡ oneMore b n ⌝ }
 {
     pick(b, n + 1, n)
+}
+
+// Whether a number is a price check's.
+pub fn is_rejected(number: u64) -> bool
+    ensures { λ r. ⌜ r ≡ isRejected number ⌝ }
+{
+    within(20, 26, number)
 }
 
 // One more seen, and one more of the number's kind.
@@ -46,7 +55,7 @@ pub fn counted(t: Tally, number: u64) -> Tally
     ensures { λ r. ⌜ r ≡ counted t number ⌝ }
 {
     let accepted = number == 0;
-    let rejected = within(20, 26, number);
+    let rejected = is_rejected(number);
     Tally {
         seen: t.seen + 1,
         refused: one_more(negated(either(accepted, rejected)), t.refused),

@@ -5,13 +5,13 @@ use mathlib.Core.Path.{_≡_, refl}
 use Prim.Native.Nat.{_≤_, _-_}
 use lib.ListN.{drop}
 use Rattle.rules.specs.Lists.{all}
-use Rattle.rules.specs.Session.{isLimitFor}
+use Rattle.rules.specs.Session.{isRejectionLimit}
 use Rattle.session_start.proofs.Laws.{limits-other, limits-turn, limits-bad, limits-end}
 use Rattle.session_start.proofs.are_limits.Statement.{statement}
 use Rattle.session_start.proofs.are_limits.Tie as tie
 
 abbrev Inv-loop : tie.InvT-loop
-Inv-loop limits i₀ i = (i ≤ 32) × (all isLimitFor limits ≡ all isLimitFor (drop i limits))
+Inv-loop limits i₀ i = (i ≤ 32) × (all isRejectionLimit limits ≡ all isRejectionLimit (drop i limits))
 
 abbrev μ-loop : tie.MeasureT-loop
 μ-loop limits i₀ i = 32 - i
@@ -20,10 +20,10 @@ returns : tie.Need-returns Inv-loop μ-loop
 returns c = limits-other (c .before .before .args .limits .now) (c .if1 .taken)
 
 returns-2 : tie.Need-returns-2 Inv-loop μ-loop
-returns-2 c = let l = c .before .before .before .before .before .loop in limits-bad _ (c .before .before .before .before .before .before .if1 .left) (l .i) (l .inv .1) (omega arith) (c .before .before .within .ensures) (c .before .negated .ensures) (c .if2 .taken)
+returns-2 c = let l = c .before .before .before .before .before .loop in limits-bad _ (c .before .before .before .before .before .before .if1 .left) (l .i) (l .inv .1) (omega arith) (c .before .before .is-limit .ensures) (c .before .negated .ensures) (c .if2 .taken)
 
 loop-again : tie.Need-loop-again Inv-loop μ-loop
-loop-again c = let l = c .before .before .before .before .before .loop in (omega arith, limits-turn _ (c .before .before .before .before .before .before .if1 .left) (l .i) (l .inv .1) (omega arith) (c .before .before .within .ensures) (c .before .negated .ensures) (c .if2 .left))
+loop-again c = let l = c .before .before .before .before .before .loop in (omega arith, limits-turn _ (c .before .before .before .before .before .before .if1 .left) (l .i) (l .inv .1) (omega arith) (c .before .before .is-limit .ensures) (c .before .negated .ensures) (c .if2 .left))
 
 returns-3 : tie.Need-returns-3 Inv-loop μ-loop
 returns-3 c = let l = c .before .loop in limits-end _ (c .before .before .if1 .left) (l .i) (l .inv .1) (omega arith)

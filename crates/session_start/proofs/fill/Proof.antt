@@ -1,7 +1,7 @@
 -- The logins so far are fresh, with their limits.
 use borrow.Author.Needs.{needs}
 use native.Mathlib.Omega.{arith}
-use mathlib.Core.Path.{_≡_, refl, sym, ap, _∙_}
+use mathlib.Core.Path.{_≡_, refl, _∙_}
 use Prim.Native.Nat.{_≤_, _-_}
 use lib.ListN.{length}
 use Rattle.session_start.proofs.Laws.{filled, filled-none, filled-next, filled-all}
