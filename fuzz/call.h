@@ -16,6 +16,7 @@ enum entry {
     CHECK_FIX_TALLIED,
     CHECK_PAIR,
     CHECK_QUOTE,
+    CHECK_CROSSING,
     START_SESSION,
     CHECK_ORDER_SESSION,
     CHECK_FIX_SESSION,
@@ -31,10 +32,14 @@ enum entry {
 /* The longest slice for one symbol, and the longest buffer to write in. */
 #define MOST_BYTES_OF_ONE 48
 
+/* The settings begin with the checks' switches. */
+#define SWITCHES 7
+
 /* More than twice as many as there should be. */
 #define MOST_SETTINGS 48
 #define MOST_MARKET_VALUES 24
 #define MOST_LIMITS 72
+#define MOST_RESTING_NUMBERS 144
 #define MOST_SESSION_NUMBERS 400
 
 /* What an entry is handed of one order. */
@@ -68,6 +73,16 @@ struct call {
     uint64_t bid;
     uint64_t offer;
     uint64_t resting;
+    /* Of a crossing quote: what rests on the other side, and how many numbers are lent for the
+     * fills. */
+    uint64_t sell;
+    uint64_t size;
+    uint64_t prices[MOST_RESTING_NUMBERS];
+    size_t prices_len;
+    uint64_t sizes[MOST_RESTING_NUMBERS];
+    size_t sizes_len;
+    uint64_t away;
+    size_t fills_len;
     uint64_t settings[MOST_SETTINGS];
     size_t settings_len;
     uint64_t market[MOST_MARKET_VALUES];

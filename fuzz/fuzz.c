@@ -26,6 +26,7 @@ static const char *const entry_names[ENTRIES] = {
     [CHECK_FIX_TALLIED] = "opc_check_fix_tallied",
     [CHECK_PAIR] = "opc_check_pair",
     [CHECK_QUOTE] = "opc_check_quote",
+    [CHECK_CROSSING] = "opc_check_crossing_quote",
     [START_SESSION] = "opc_start_session",
     [CHECK_ORDER_SESSION] = "opc_check_order_session",
     [CHECK_FIX_SESSION] = "opc_check_fix_session",
@@ -52,6 +53,8 @@ static uint64_t pairings[PAIRINGS];
 static uint64_t contra_numbers[NUMBERS]; /* of a pair; the agency order's are with the answers */
 static uint64_t passing[3];              /* how many orders of a pair pass: one is the agency's */
 static uint64_t cancels[2];
+static uint64_t filled[OPC_MAX_RESTING + 1]; /* how many offers an accepted quote meets */
+static uint64_t rests[3];                    /* of it nothing is left, or is booked, or cancelled */
 
 static void print_list(const char *what, const uint64_t *times, size_t n) {
     for (size_t i = 0; i < n; i++) {
@@ -72,6 +75,8 @@ static void print_counts(void) {
     print_list("contra", contra_numbers, NUMBERS);
     print_list("passing", passing, sizeof passing / sizeof passing[0]);
     print_list("cancel", cancels, 2);
+    print_list("filled", filled, sizeof filled / sizeof filled[0]);
+    print_list("rest", rests, sizeof rests / sizeof rests[0]);
     fflush(stdout);
 }
 
@@ -99,6 +104,21 @@ static void count_pair(const struct call *call, const struct opc_pair_answer *an
         contra_numbers[answer->contra_number]++;
     }
     passing[(answer->agency_passes + answer->contra_passes) % 3]++;
+}
+
+static void count_quote(const struct call *call, uint64_t number, uint64_t cancel) {
+    count_answer(call, number);
+    cancels[cancel % 2]++;
+}
+
+static void count_fills(const struct second_crossing_answer *answer, const uint64_t *fills,
+                        size_t n) {
+    size_t met = 0;
+    for (size_t i = 0; i < n; i++) {
+        met += fills[i] > 0;
+    }
+    filled[met]++;
+    rests[answer->booked > 0 ? 1 : answer->cancelled > 0 ? 2 : 0]++;
 }
 
 /* ---- Differences. ---- */
@@ -142,6 +162,22 @@ static struct opc_quote quote_of(const struct call *call, const uint8_t *symbol)
                               .bid = call->bid,
                               .offer = call->offer,
                               .resting = call->resting};
+}
+
+static struct opc_crossing_quote crossing_of(const struct call *call, const uint8_t *symbol,
+                                             const uint64_t *prices, const uint64_t *sizes) {
+    return (struct opc_crossing_quote){.quote = quote_of(call, symbol),
+                                       .sell = call->sell,
+                                       .size = call->size,
+                                       .prices = prices,
+                                       .prices_len = call->prices_len,
+                                       .sizes = sizes,
+                                       .sizes_len = call->sizes_len,
+                                       .away = call->away};
+}
+
+static struct opc_crossing_quote own_crossing(const struct call *call) {
+    return crossing_of(call, call->order.symbols, call->prices, call->sizes);
 }
 
 static struct second_terms terms_of(const struct call *call) {
@@ -195,7 +231,7 @@ static void print_call(const struct call *call) {
     struct opc_order order = own_order(&call->order);
     struct opc_fix fix = fix_of(call, call->message);
     struct opc_pair pair = own_pair(call);
-    struct opc_quote quote = quote_of(call, call->order.symbols);
+    struct opc_crossing_quote crossing = own_crossing(call);
     struct second_terms terms = terms_of(call);
     const struct opc_tally *tally = is_tallied(call) ? &call->tally : NULL;
     switch (call->entry) {
@@ -211,7 +247,10 @@ static void print_call(const struct call *call) {
         second_print_pair(&pair, &terms);
         break;
     case CHECK_QUOTE:
-        second_print_quote(&quote, &terms);
+        second_print_quote(&crossing.quote, &terms);
+        break;
+    case CHECK_CROSSING:
+        second_print_crossing_quote(&crossing, &terms, call->fills_len);
         break;
     case READ_SYMBOL:
     case WRITE_SYMBOL:
@@ -263,6 +302,9 @@ static struct lent lent_settings;
 static struct lent lent_market;
 static struct lent lent_limits;
 static struct lent lent_session;
+static struct lent lent_prices;
+static struct lent lent_sizes;
+static struct lent lent_fills;
 
 /* What lent numbers hold before a call: two values, so that one which is not set shows. */
 static const uint64_t unset[2] = {UINT64_C(0xdeadbeefdeadbeef), UINT64_C(0x0123456789abcdef)};
@@ -315,12 +357,48 @@ static void *lend_session(const struct call *call, bool last) {
     return lend(&lent_session, call->session, size, last, is_null(call));
 }
 
+static const uint64_t *lend_prices(const struct call *call, bool last) {
+    size_t size = call->prices_len * sizeof call->prices[0];
+    return lend(&lent_prices, call->prices, size, last, is_null(call));
+}
+
+static const uint64_t *lend_sizes(const struct call *call, bool last) {
+    size_t size = call->sizes_len * sizeof call->sizes[0];
+    return lend(&lent_sizes, call->sizes, size, last, is_null(call));
+}
+
+static uint64_t *lend_fills(const struct call *call, bool last) {
+    uint64_t before[MOST_RESTING_NUMBERS];
+    for (size_t i = 0; i < call->fills_len; i++) {
+        before[i] = unset[last];
+    }
+    return lend(&lent_fills, before, call->fills_len * sizeof before[0], last, is_null(call));
+}
+
 /* Of every slice, so of those that this call was not lent too. */
 static void expect_kept(const struct call *call) {
-    bool kept = is_kept(&lent_symbols) && is_kept(&lent_counts) && is_kept(&lent_contra_symbols) &&
-                is_kept(&lent_contra_counts) && is_kept(&lent_message) && is_kept(&lent_settings) &&
-                is_kept(&lent_market) && is_kept(&lent_limits) && is_kept(&lent_session);
-    expect(kept, call, "a lent slice, or what is around it, was changed");
+    const struct lent *const all[] = {&lent_symbols,       &lent_counts,  &lent_contra_symbols,
+                                      &lent_contra_counts, &lent_message, &lent_settings,
+                                      &lent_market,        &lent_limits,  &lent_session,
+                                      &lent_prices,        &lent_sizes,   &lent_fills};
+    for (size_t i = 0; i < sizeof all / sizeof all[0]; i++) {
+        expect(is_kept(all[i]), call, "a lent slice, or what is around it, was changed");
+    }
+}
+
+/* Every number of a slice that was lent to write in, and all that is around it and the others. */
+static void expect_written(const struct call *call, const char *what, struct lent *lent,
+                           const uint64_t *expected, size_t n) {
+    uint64_t given[MOST_SESSION_NUMBERS];
+    memcpy(given, lent->watched + lent->before, n * sizeof given[0]);
+    for (size_t i = 0; i < n; i++) {
+        if (given[i] != expected[i]) {
+            fprintf(stderr, "  place %zu\n", i);
+            expect_equal(call, what, &given[i], &expected[i], sizeof given[i]);
+        }
+    }
+    expect_in(lent, expected, n * sizeof given[0]);
+    expect_kept(call);
 }
 
 static void expect_guards(const struct call *call, const struct lent_numbers *lent) {
@@ -796,21 +874,6 @@ static struct opc_answer session_second(const struct call *call, uint64_t *after
     }
 }
 
-/* Every number of the session that was lent, and all that is around it. */
-static void expect_session(const struct call *call, const uint64_t *expected) {
-    uint64_t given[MOST_SESSION_NUMBERS];
-    size_t size = call->session_len * sizeof given[0];
-    memcpy(given, lent_session.watched + lent_session.before, size);
-    for (size_t i = 0; i < call->session_len; i++) {
-        if (given[i] != expected[i]) {
-            fprintf(stderr, "  login %zu, number %zu\n", i / LOGIN_NUMBERS, i % LOGIN_NUMBERS);
-            expect_equal(call, "the session after it", &given[i], &expected[i], sizeof given[i]);
-        }
-    }
-    expect_in(&lent_session, expected, size);
-    expect_kept(call);
-}
-
 /* One call, held to the second implementation; the session goes on from it. */
 static struct opc_answer ask_in_session(struct call *call, bool last, bool inlined) {
     uint64_t after[MOST_SESSION_NUMBERS];
@@ -818,7 +881,7 @@ static struct opc_answer ask_in_session(struct call *call, bool last, bool inlin
     struct opc_answer second = session_second(call, after);
     struct opc_answer answer = inlined ? session_inlined(call, last) : session_directly(call, last);
     expect_equal(call, "the answer in a session", &answer, &second, sizeof answer);
-    expect_session(call, after);
+    expect_written(call, "the session after it", &lent_session, after, call->session_len);
     memcpy(call->session, after, sizeof after);
     return answer;
 }
@@ -1006,12 +1069,17 @@ static void try_pair(const struct call *call) {
 
 /* ---- Quotes. ---- */
 
+#define QUOTE_OF(call, last)                                                                       \
+    lend_symbols(call, last), (call)->order.symbols_len, (call)->bid, (call)->offer, (call)->resting
+#define RESTING_OF(call, last)                                                                     \
+    (call)->sell, (call)->size, lend_prices(call, last), (call)->prices_len,                       \
+        lend_sizes(call, last), (call)->sizes_len, (call)->away
+
 static struct opc_quote_answer quote_directly(const struct call *call, bool last) {
     struct lent_numbers lent = lend_numbers(unset[last]);
     struct opc_quote_answer answer;
     answer.number =
-        opc_check_quote(lend_symbols(call, last), call->order.symbols_len, call->bid, call->offer,
-                        call->resting, TERMS_OF(call, last), lent_number(&lent, 0));
+        opc_check_quote(QUOTE_OF(call, last), TERMS_OF(call, last), lent_number(&lent, 0));
     answer.cancel = *lent_number(&lent, 0);
     expect_kept(call);
     expect_guards(call, &lent);
@@ -1025,8 +1093,7 @@ static uint64_t ask_quote(const struct call *call, struct opc_quote_answer *seco
     *second = second_check_quote(&quote, &terms);
     struct opc_quote_answer answer = quote_directly(call, true);
     expect_equal(call, "the answer to a quote", &answer, second, sizeof answer);
-    count_answer(call, answer.number);
-    cancels[answer.cancel % 2]++;
+    count_quote(call, answer.number, answer.cancel);
     return answer.number;
 }
 
@@ -1060,6 +1127,131 @@ static void try_quote(const struct call *call) {
     }
 }
 
+/* ---- Crossing quotes. ---- */
+
+/* The fills are left where they were lent. */
+static struct second_crossing_answer crossing_directly(const struct call *call, bool last) {
+    struct lent_numbers lent = lend_numbers(unset[last]);
+    uint64_t *fills = lend_fills(call, last);
+    struct second_crossing_answer answer;
+    answer.number = opc_check_crossing_quote(
+        QUOTE_OF(call, last), RESTING_OF(call, last), TERMS_OF(call, last), fills, call->fills_len,
+        lent_number(&lent, 0), lent_number(&lent, 1), lent_number(&lent, 2), lent_number(&lent, 3));
+    answer.cancel = *lent_number(&lent, 0);
+    answer.executed = *lent_number(&lent, 1);
+    answer.booked = *lent_number(&lent, 2);
+    answer.cancelled = *lent_number(&lent, 3);
+    expect_guards(call, &lent);
+    return answer;
+}
+
+/* One call, held to an answer and its fills. */
+static void expect_crossing(const struct call *call, bool last, const char *what,
+                            const struct second_crossing_answer *expected, const uint64_t *fills) {
+    struct second_crossing_answer answer = crossing_directly(call, last);
+    expect_equal(call, what, &answer, expected, sizeof answer);
+    expect_written(call, what, &lent_fills, fills, call->fills_len);
+}
+
+/* Both answers to a crossing quote, counted; gives the second one, and leaves its fills. */
+static struct second_crossing_answer ask_crossing(const struct call *call, uint64_t *fills) {
+    struct opc_crossing_quote crossing = own_crossing(call);
+    struct second_terms terms = terms_of(call);
+    struct second_crossing_answer second =
+        second_check_crossing_quote(&crossing, &terms, fills, call->fills_len);
+    expect_crossing(call, true, "the answer to a crossing quote", &second, fills);
+    count_quote(call, second.number, second.cancel);
+    if (second.number == OPC_ACCEPTED) {
+        count_fills(&second, fills, call->fills_len);
+    }
+    return second;
+}
+
+/* Through structs, where the fills are always as many as there may be offers. */
+static void expect_crossing_inlined(const struct call *call) {
+    struct call inlined = *call;
+    inlined.fills_len = OPC_MAX_RESTING;
+    struct opc_crossing_quote crossing = own_crossing(call);
+    struct second_terms terms = terms_of(call);
+    uint64_t fills[OPC_MAX_RESTING];
+    struct second_crossing_answer second =
+        second_check_crossing_quote(&crossing, &terms, fills, OPC_MAX_RESTING);
+    bool last = (call->choice & 2) == 2;
+    crossing = crossing_of(call, lend_symbols(call, last), lend_prices(call, last),
+                           lend_sizes(call, last));
+    struct opc_crossing_answer answer =
+        opc_answer_crossing_quote(&crossing, lend_settings(call, last), lend_market(call, last));
+    expect_kept(&inlined);
+    expect_equal(&inlined, "the answer through structs", &answer, &second, sizeof second);
+    bool are_same = memcmp(answer.fills, fills, sizeof fills) == 0;
+    expect(are_same, &inlined, "the fills through structs");
+}
+
+/* Number and flag are the quote's own, unless what it meets is wrong. */
+static void expect_quote_alone(const struct call *call,
+                               const struct second_crossing_answer *answer) {
+    struct call alone = *call;
+    alone.entry = CHECK_QUOTE;
+    struct opc_quote_answer own = quote_directly(&alone, (call->choice & 2) == 2);
+    if (answer->number == OPC_BAD_CROSSING) {
+        expect(is_valid(own.number), call, "36 in the place of a refusal");
+    } else {
+        expect_equal(call, "the answer with and without a list", answer, &own, sizeof own);
+    }
+}
+
+/* A bid for so many against offers is, in a mirror, an offer of as many against bids; but checks
+ * look at one side more than at the other. */
+static void expect_mirrored(const struct call *call, const struct second_crossing_answer *answer,
+                            const uint64_t *fills) {
+    const uint64_t off[SWITCHES] = {0};
+    if (answer->number != OPC_ACCEPTED || memcmp(call->settings, off, sizeof off) != 0) {
+        return;
+    }
+    struct call turned = *call;
+    turned.sell = 1; /* so that every price is seen in the mirror */
+    turned.bid = seen_price(&turned, call->offer);
+    turned.offer = seen_price(&turned, call->bid);
+    turned.away = seen_price(&turned, call->away);
+    for (size_t i = 0; i < call->prices_len; i++) {
+        turned.prices[i] = seen_price(&turned, call->prices[i]);
+    }
+    turned.sell = call->sell == 0;
+    expect_crossing(&turned, false, "the answer in a mirror", answer, fills);
+}
+
+/* The same with one of its numbers one more or one less, and for what it executes alone. */
+static void ask_crossing_nearby(const struct call *call, uint64_t executed) {
+    uint64_t fills[MOST_RESTING_NUMBERS];
+    struct call near = *call;
+    size_t place = call->choice % (call->prices_len == 0 ? 1 : call->prices_len);
+    uint64_t *numbers[] = {&near.size,  &near.away,          &near.bid,
+                           &near.offer, &near.prices[place], &near.sizes[place]};
+    for (size_t i = 0; i < sizeof numbers / sizeof numbers[0]; i++) {
+        *numbers[i] += 1;
+        ask_crossing(&near, fills);
+        *numbers[i] -= 2;
+        ask_crossing(&near, fills);
+        *numbers[i] += 1;
+    }
+    near.size = executed;
+    ask_crossing(&near, fills);
+}
+
+static void try_crossing(const struct call *call) {
+    uint64_t fills[MOST_RESTING_NUMBERS];
+    struct second_crossing_answer answer = ask_crossing(call, fills);
+    expect_crossing(call, false, "the answer to the crossing quote again", &answer, fills);
+    expect_quote_alone(call, &answer);
+    expect_mirrored(call, &answer, fills);
+    if (has_structs(call)) {
+        expect_crossing_inlined(call);
+    }
+    if (is_valid(answer.number)) {
+        ask_crossing_nearby(call, answer.executed);
+    }
+}
+
 /* ---- The fuzzer's own. ---- */
 
 int LLVMFuzzerInitialize(int *argc, char ***argv);
@@ -1077,12 +1269,42 @@ int LLVMFuzzerInitialize(int *argc, char ***argv) {
     return 0;
 }
 
+static void try_call(struct input *in, const struct call *call) {
+    switch (call->entry) {
+    case READ_SYMBOL:
+        try_read(call);
+        break;
+    case WRITE_SYMBOL:
+        try_write(call);
+        break;
+    case CHECK_PAIR:
+        try_pair(call);
+        break;
+    case CHECK_QUOTE:
+        try_quote(call);
+        break;
+    case CHECK_CROSSING:
+        try_crossing(call);
+        break;
+    case CHECK_ORDER:
+    case CHECK_FIX:
+        try_check(call);
+        break;
+    case CHECK_ORDER_TALLIED:
+    case CHECK_FIX_TALLIED:
+        try_tallied(call);
+        break;
+    default:
+        try_session(in, call);
+    }
+}
+
 int LLVMFuzzerTestOneInput(const uint8_t *data, size_t size) {
     static const enum entry entries[] = {
-        READ_SYMBOL,         WRITE_SYMBOL,      CHECK_ORDER,  CHECK_ORDER, CHECK_ORDER,
-        CHECK_ORDER_TALLIED, CHECK_QUOTE,       CHECK_QUOTE,  CHECK_FIX,   CHECK_FIX,
-        CHECK_FIX,           CHECK_FIX_TALLIED, CHECK_PAIR,   CHECK_PAIR,  START_SESSION,
-        CHECK_ORDER_SESSION, CHECK_FIX_SESSION, RELEASE_LOGIN};
+        READ_SYMBOL,         WRITE_SYMBOL,      CHECK_ORDER,   CHECK_ORDER,    CHECK_ORDER,
+        CHECK_ORDER_TALLIED, CHECK_QUOTE,       CHECK_QUOTE,   CHECK_FIX,      CHECK_FIX,
+        CHECK_FIX,           CHECK_FIX_TALLIED, CHECK_PAIR,    CHECK_PAIR,     START_SESSION,
+        CHECK_ORDER_SESSION, CHECK_FIX_SESSION, RELEASE_LOGIN, CHECK_CROSSING, CHECK_CROSSING};
     struct input in = {data, size};
     struct call call;
     memset(&call, 0, sizeof call);
@@ -1090,29 +1312,6 @@ int LLVMFuzzerTestOneInput(const uint8_t *data, size_t size) {
     bool is_shaped = take(&in) % 4 != 0;
     call.choice = take(&in);
     (is_shaped ? shaped_forms : raw_forms)[call.entry](&in, &call);
-    switch (call.entry) {
-    case READ_SYMBOL:
-        try_read(&call);
-        break;
-    case WRITE_SYMBOL:
-        try_write(&call);
-        break;
-    case CHECK_PAIR:
-        try_pair(&call);
-        break;
-    case CHECK_QUOTE:
-        try_quote(&call);
-        break;
-    case CHECK_ORDER:
-    case CHECK_FIX:
-        try_check(&call);
-        break;
-    case CHECK_ORDER_TALLIED:
-    case CHECK_FIX_TALLIED:
-        try_tallied(&call);
-        break;
-    default:
-        try_session(&in, &call);
-    }
+    try_call(&in, &call);
     return 0;
 }

@@ -93,6 +93,13 @@ static inline void raw_short_numbers(struct input *in, uint64_t *numbers, size_t
     }
 }
 
+/* Gives how many were taken. */
+static inline size_t raw_short_list(struct input *in, uint64_t *numbers, size_t most) {
+    size_t n = take(in) % most;
+    raw_short_numbers(in, numbers, n);
+    return n;
+}
+
 static inline void raw_in_session(struct input *in, struct call *call) {
     if (is_message(call)) {
         raw_fix(in, call);
@@ -100,8 +107,7 @@ static inline void raw_in_session(struct input *in, struct call *call) {
         raw_order(in, call);
     }
     call->login = take_number(in, 8);
-    call->limits_len = take(in) % MOST_LIMITS;
-    raw_short_numbers(in, call->limits, call->limits_len);
+    call->limits_len = raw_short_list(in, call->limits, MOST_LIMITS);
     call->session_len = (size_t)take_number(in, 2) % MOST_SESSION_NUMBERS;
     raw_short_numbers(in, call->session, call->session_len);
 }
@@ -112,6 +118,16 @@ static inline void raw_quote(struct input *in, struct call *call) {
     call->offer = take_number(in, 8);
     call->resting = take_number(in, 8);
     raw_settings_and_market(in, call);
+}
+
+static inline void raw_crossing_quote(struct input *in, struct call *call) {
+    raw_quote(in, call);
+    call->sell = take_number(in, 8);
+    call->size = take_number(in, 8);
+    call->away = take_number(in, 8);
+    call->prices_len = raw_short_list(in, call->prices, MOST_RESTING_NUMBERS);
+    call->sizes_len = raw_short_list(in, call->sizes, MOST_RESTING_NUMBERS);
+    call->fills_len = take(in) % MOST_RESTING_NUMBERS;
 }
 
 static inline void raw_parts(struct input *in, struct call *call) {
@@ -133,6 +149,7 @@ static form *const raw_forms[ENTRIES] = {
     [CHECK_FIX_TALLIED] = raw_fix,
     [CHECK_PAIR] = raw_pair,
     [CHECK_QUOTE] = raw_quote,
+    [CHECK_CROSSING] = raw_crossing_quote,
     [START_SESSION] = raw_in_session,
     [CHECK_ORDER_SESSION] = raw_in_session,
     [CHECK_FIX_SESSION] = raw_in_session,

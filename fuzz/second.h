@@ -30,6 +30,19 @@ struct opc_pair_answer second_check_pair(const struct opc_pair *pair,
 struct opc_quote_answer second_check_quote(const struct opc_quote *quote,
                                            const struct second_terms *terms);
 
+/* The answer to a crossing quote, its fills aside. */
+struct second_crossing_answer {
+    uint64_t number;
+    uint64_t cancel;
+    uint64_t executed;
+    uint64_t booked;
+    uint64_t cancelled;
+};
+
+struct second_crossing_answer second_check_crossing_quote(const struct opc_crossing_quote *crossing,
+                                                          const struct second_terms *terms,
+                                                          uint64_t *fills, size_t fills_len);
+
 /* A session of any length, which a call may change. */
 struct second_session {
     uint64_t *numbers;
@@ -53,6 +66,8 @@ void second_print_fix(const struct opc_fix *fix, const struct second_terms *term
                       const struct opc_tally *tally);
 void second_print_pair(const struct opc_pair *pair, const struct second_terms *terms);
 void second_print_quote(const struct opc_quote *quote, const struct second_terms *terms);
+void second_print_crossing_quote(const struct opc_crossing_quote *crossing,
+                                 const struct second_terms *terms, size_t fills_len);
 void second_print_start(const uint64_t *limits, size_t limits_len,
                         const struct second_session *session);
 void second_print_order_session(uint64_t login, const struct opc_order *order,

@@ -7,12 +7,13 @@
 #define SHAPED_H
 
 #include "call.h"
+#include "crossings.h"
 #include "messages.h"
 #include "sessions.h"
 
 #define SHAPED_LEGS 17
 #define LARGEST_STRIKE 99999999
-#define LARGEST_MARKET_VALUE 1000000000
+#define LARGEST_MARKET_VALUE LARGEST_PRICE
 
 struct shaped_leg {
     uint64_t expiry; /* yymmdd */
@@ -300,7 +301,7 @@ static inline uint64_t shaped_setting(struct input *in, const struct limit *limi
 static inline struct opc_settings shaped_settings(struct input *in) {
     uint64_t numbers[OPC_SETTINGS_COUNT];
     size_t at = 0;
-    for (; at < 7; at++) {
+    for (; at < SWITCHES; at++) {
         uint8_t byte = take(in);
         numbers[at] = byte < 208 ? 1 : byte < 248 ? 0 : take_number(in, 8);
     }
@@ -626,6 +627,16 @@ static inline void shaped_quote(struct input *in, struct call *call) {
     shaped_symbol(in, call, &pool, &leg, 232, 240);
 }
 
+/* Half of them with every check off, so that they come to their fills. */
+static inline void shaped_crossing_quote(struct input *in, struct call *call) {
+    shaped_quote(in, call);
+    call->sell = shaped_flag(in, 128);
+    if (take(in) < 128) {
+        memset(call->settings, 0, SWITCHES * sizeof call->settings[0]);
+    }
+    shaped_resting(in, call);
+}
+
 /* A date as yymmdd, which may not exist: often one around the end of a month. */
 static inline uint64_t shaped_date(struct input *in) {
     static const uint64_t dates[] = {229,    10229,  40229,  960229, 990229, 228,
@@ -689,6 +700,7 @@ static form *const shaped_forms[ENTRIES] = {
     [CHECK_FIX_TALLIED] = shaped_fix,
     [CHECK_PAIR] = shaped_pair,
     [CHECK_QUOTE] = shaped_quote,
+    [CHECK_CROSSING] = shaped_crossing_quote,
     [START_SESSION] = shaped_in_session,
     [CHECK_ORDER_SESSION] = shaped_in_session,
     [CHECK_FIX_SESSION] = shaped_in_session,

@@ -77,6 +77,11 @@ static inline const char *passes_name(uint64_t passes) {
     return name_in(names, COUNT(names), passes);
 }
 
+/* How a crossing quote ends: 1 where some is executed, and 2 booked, 4 cancelled; 0 if it fails. */
+static inline uint64_t end_of(const struct opc_crossing_answer *a) {
+    return (a->executed > 0 ? 1u : 0u) + (a->booked > 0 ? 2u : 0u) + (a->cancelled > 0 ? 4u : 0u);
+}
+
 static inline bool same_answer(const struct opc_answer *a, const struct opc_answer *b) {
     return a->number == b->number && a->class_ == b->class_ && a->shape == b->shape &&
            a->pairings == b->pairings;

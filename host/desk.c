@@ -1,10 +1,12 @@
 /*
- * The checks for a trading desk: reads orders, pairs, messages and quotes, one to a line, those of
- * logins in a session too, and prints the library's verdict on each in words. host/desk.help says
- * how a line is written and what is printed.
+ * The checks for a trading desk: reads orders, pairs, messages and quotes, one to a line, orders
+ * and messages of logins in a session too, and quotes that cross what is resting, and prints the
+ * library's verdict on each in words. host/desk.help says how a line is written and what is
+ * printed.
  *
  * No rule of the checks is here. What is said of a refusal beside its meaning is learnt by asking
- * the library again: of a leg by itself, at another price, with one field of the terms alone.
+ * the library again: of a leg by itself, at another price, with one field of the terms alone, with
+ * one resting offer.
  */
 #define _POSIX_C_SOURCE 200809L /* for fstat, fileno and getline */
 
@@ -48,7 +50,7 @@ struct logins {
 
 struct desk {
     struct terms terms;
-    struct tallied orders, quotes; /* without a login */
+    struct tallied orders, quotes; /* without a login; quotes that cross among the quotes */
     struct pairs pairs;
     struct logins logins;
     uint64_t line_number;
@@ -58,15 +60,17 @@ struct desk {
 
 /* ---- verdicts in words, and what settings and market are at fault ---- */
 
-/* The number that a valid quote gets in these terms: a refusal is one of the terms. */
+/* A quote that is valid: a refusal is of what stands beside it. */
+static const struct opc_quote right_quote = {
+    .symbol = (const uint8_t *)"A     270115C00001000",
+    .symbol_len = OPC_SYMBOL_LENGTH,
+    .bid = 1,
+    .offer = 2,
+};
+
+/* The number that it gets in these terms. */
 static uint64_t number_in(const struct terms *terms) {
-    static const struct opc_quote quote = {
-        .symbol = (const uint8_t *)"A     270115C00001000",
-        .symbol_len = OPC_SYMBOL_LENGTH,
-        .bid = 1,
-        .offer = 2,
-    };
-    return opc_answer_quote(&quote, &terms->settings, &terms->market).number;
+    return opc_answer_quote(&right_quote, &terms->settings, &terms->market).number;
 }
 
 /* Whether the field at this value, with all others as at the start, gets the number. */
@@ -285,6 +289,54 @@ static void print_quote_fault(const struct opc_quote *quote, uint64_t number) {
     }
 }
 
+/* Whether these get the number, of what is resting so many from this place on. */
+static bool are_at_fault(const struct opc_crossing_quote *crossing, size_t first, size_t len,
+                         uint64_t size, uint64_t away, uint64_t number) {
+    const struct opc_crossing_quote asked = {.quote = right_quote,
+                                             .sell = crossing->sell,
+                                             .size = size,
+                                             .prices = crossing->prices + first,
+                                             .prices_len = len,
+                                             .sizes = crossing->sizes + first,
+                                             .sizes_len = len,
+                                             .away = away};
+    return opc_answer_crossing_quote(&asked, &first_terms.settings, &first_terms.market).number ==
+           number;
+}
+
+/* The first that gets the number by itself, or else the first two together, or how many. */
+static void print_list_at_fault(const struct opc_crossing_quote *crossing, uint64_t number) {
+    const char *what = crossing->sell == 0 ? "offer" : "bid";
+    size_t len = crossing->prices_len;
+    for (size_t i = 0; i < len; i++) {
+        if (are_at_fault(crossing, i, 1, 1, 0, number)) {
+            printf(": %s %zu", what, i + 1);
+            return;
+        }
+    }
+    for (size_t i = 0; i + 1 < len; i++) {
+        if (are_at_fault(crossing, i, 2, 1, 0, number)) {
+            printf(": %ss %zu and %zu", what, i + 1, i + 2);
+            return;
+        }
+    }
+    printf(": %zu %ss", len, what);
+}
+
+static void print_crossing_fault(const struct opc_crossing_quote *crossing, uint64_t number) {
+    print_quote_fault(&crossing->quote, number);
+    if (number != OPC_BAD_CROSSING) {
+        return;
+    }
+    if (are_at_fault(crossing, 0, 0, crossing->size, 0, number)) {
+        printf(": the size");
+    } else if (are_at_fault(crossing, 0, 0, 1, crossing->away, number)) {
+        printf(": the away price");
+    } else {
+        print_list_at_fault(crossing, number);
+    }
+}
+
 /* ---- tallies ---- */
 
 static void print_given(const struct given *given) {
@@ -441,15 +493,47 @@ static void tally_quote(struct opc_tally *tally, enum opc_outcome outcome) {
     tally->rejected += outcome == OPC_OUTCOME_REJECTED;
 }
 
+static void start_quote_answer(struct desk *desk, const char *what, uint64_t number) {
+    tally_quote(&desk->quotes.tally, opc_outcome_of(number));
+    note(desk, &desk->quotes.given, number);
+    printf("%" PRIu64 ": %s: ", desk->line_number, what);
+    print_verdict(number, &desk->terms);
+}
+
+static void end_quote_answer(uint64_t cancel) {
+    printf("; cancel the resting quote: %s\n", cancel == 0 ? "no" : "yes");
+}
+
 static void answer_quote(struct desk *desk, const struct opc_quote *quote) {
     struct opc_quote_answer answer =
         opc_answer_quote(quote, &desk->terms.settings, &desk->terms.market);
-    tally_quote(&desk->quotes.tally, opc_outcome_of(answer.number));
-    note(desk, &desk->quotes.given, answer.number);
-    printf("%" PRIu64 ": quote: ", desk->line_number);
-    print_verdict(answer.number, &desk->terms);
+    start_quote_answer(desk, "quote", answer.number);
     print_quote_fault(quote, answer.number);
-    printf("; cancel the resting quote: %s\n", answer.cancel == 0 ? "no" : "yes");
+    end_quote_answer(answer.cancel);
+}
+
+/* Each fill beside the offer, or the bid, that it is of, then what becomes of the size. */
+static void print_fills(const struct opc_crossing_quote *crossing,
+                        const struct opc_crossing_answer *answer) {
+    for (size_t i = 0; i < crossing->prices_len; i++) {
+        printf("%s%" PRIu64 " of %" PRIu64 " at ", i == 0 ? "; " : ", ", answer->fills[i],
+               crossing->sizes[i]);
+        print_value(UNIT_MONEY, crossing->prices[i]);
+    }
+    printf("; %" PRIu64 " executed, %" PRIu64 " booked, %" PRIu64 " cancelled", answer->executed,
+           answer->booked, answer->cancelled);
+}
+
+static void answer_crossing(struct desk *desk, const struct opc_crossing_quote *crossing) {
+    struct opc_crossing_answer answer =
+        opc_answer_crossing_quote(crossing, &desk->terms.settings, &desk->terms.market);
+    start_quote_answer(desk, "cross", answer.number);
+    if (answer.number == OPC_ACCEPTED) {
+        print_fills(crossing, &answer);
+    } else {
+        print_crossing_fault(crossing, answer.number);
+    }
+    end_quote_answer(answer.cancel);
 }
 
 /* ---- logins ---- */
@@ -615,6 +699,9 @@ static void answer_request(struct desk *desk, const struct request *request) {
         break;
     case REQUEST_QUOTE:
         answer_quote(desk, &request->quote);
+        break;
+    case REQUEST_CROSSING:
+        answer_crossing(desk, &request->crossing);
         break;
     case REQUEST_LIMITS:
         answer_limits(desk, request);

@@ -5,11 +5,13 @@
  * other side, the check of messages, alone and in a session, the messages of those of 1, 4 and 16
  * legs, the tallied checks those of 1 and 16 legs. Those of orders and of pairs then get orders of
  * 1 and 16 legs with shares: "1+shares" for 1. A session is a right one, in which all 32 logins
- * have sent orders; it is started and a login released too, which have no legs: "-". With a second
- * argument, "lengths", the check of messages gets ones with more and more fields to
- * step over, and a line has the bytes in place of the legs. host/measure runs this under callgrind,
- * which counts the instructions of each call.
+ * have sent orders; it is started and a login released too, which have no legs: "-". Crossing
+ * quotes are held against 0, 1, 16 and 64 offers, and bids: a line has that number in place of the
+ * legs, and the side before the kind. With a second argument, "lengths", the check of messages gets
+ * ones with more and more fields to step over, and a line has the bytes in place of the legs.
+ * host/measure runs this under callgrind, which counts the instructions of each call.
  */
+#include "made_crossing.h"
 #include "made_messages.h"
 #include "made_orders.h"
 #include "made_pairs.h"
@@ -274,6 +276,64 @@ static void check_quotes(void) {
     }
 }
 
+static void check_crossing(const struct made_crossing *c, const char *kind, uint64_t number) {
+    struct opc_crossing_quote crossing = lend_crossing(c);
+    uint64_t given =
+        opc_answer_crossing_quote(&crossing, &c->quote.settings, &c->quote.market).number;
+    printf("%zu %s: %s\n", c->prices_len, c->sell == 0 ? "buy" : "sell", kind);
+    expect(given == number, kind, c->prices_len);
+}
+
+/* A quote of 1.19 to 1.21 dollars for 1000, against so many of 10 from this price on. */
+static struct made_crossing crossing_against(uint64_t sell, uint64_t first, size_t len) {
+    struct made_crossing c = {
+        .quote = quote_for("XYZ   270115C00020000", 1190, 1210), .sell = sell, .size = 1000};
+    c.quote.market = quoted;
+    for (size_t i = 0; i < len; i++) {
+        add_resting(&c, 10, sell == 0 ? first + i : first - i);
+    }
+    return c;
+}
+
+/* The whole list is judged in each, and filled in some; the last of it may be wrong. */
+static void check_crossing_side(uint64_t sell, size_t len) {
+    struct made_crossing c = crossing_against(sell, sell == 0 ? 1100 : 1300, len);
+    c.away = own_price(&c);
+    check_crossing(&c, "typical", OPC_ACCEPTED);
+    c.away = 0;
+    check_crossing(&c, "no away price", OPC_ACCEPTED);
+    c.size = 1;
+    check_crossing(&c, "filled by the first", OPC_ACCEPTED);
+    c.size = 10 * len + (len == 0);
+    check_crossing(&c, "filled by the last", OPC_ACCEPTED);
+    c.away = sell == 0 ? 1100 : 1300;
+    check_crossing(&c, "stopped by the away price", OPC_ACCEPTED);
+    if (len > 0) {
+        c.sizes[len - 1] = 0;
+        check_crossing(&c, "the last size 0", OPC_BAD_CROSSING);
+    }
+    c = crossing_against(sell, 1200, len);
+    check_crossing(&c, "none at an allowed price", OPC_ACCEPTED);
+    c.quote.market.nbo = c.quote.bid;
+    check_crossing(&c, "rejected", OPC_CHECK_QUOTE_INVERSION);
+    for (size_t i = 0; i < RANDOM_INPUTS; i++) {
+        c.away = random_away(own_price(&c));
+        c.quote.market = quoted;
+        c.size = between(1, MOST_SIZE);
+        random_list(&c, len);
+        check_crossing(&c, "random", OPC_ACCEPTED);
+    }
+}
+
+static void check_crossings(void) {
+    static const size_t lens[] = {0, 1, 16, OPC_MAX_RESTING};
+    for (uint64_t sell = 0; sell <= 1; sell++) {
+        for (size_t i = 0; i < COUNT(lens); i++) {
+            check_crossing_side(sell, lens[i]);
+        }
+    }
+}
+
 /* Limits that are right, and one that is not, at the end. */
 static void check_starts(void) {
     struct opc_session session = used_session();
@@ -306,6 +366,7 @@ static bool check_other(const char *entry, const char *what) {
         void (*check)(void);
     } others[] = {
         {"opc_check_quote", "", check_quotes},
+        {"opc_check_crossing_quote", "", check_crossings},
         {"opc_check_fix", "lengths", check_lengths},
         {"opc_start_session", "", check_starts},
         {"opc_release_login", "", check_releases},

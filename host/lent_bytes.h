@@ -79,6 +79,13 @@ static inline const uint64_t *lend_numbers(struct lent_bytes *lent, const void *
     return len == 0 ? NULL : at;
 }
 
+/* Numbers of a list, as many as it has; NULL where there are none. */
+static inline const uint64_t *lend_list(struct lent_bytes *lent, const uint64_t *numbers,
+                                        size_t len) {
+    const void *at = lend_bytes(lent, (const uint8_t *)numbers, len * sizeof(uint64_t));
+    return len == 0 ? NULL : at;
+}
+
 /* Settings and market lent in this way. */
 struct lent_terms {
     struct lent_bytes settings_bytes, market_bytes;

@@ -46,6 +46,23 @@ static inline struct opc_quote lend_quote(const struct made_quote *q) {
     return quote;
 }
 
+/* A price turned about the middle between 0 and the sum; one that is missing stays so. */
+static inline uint64_t mirrored(uint64_t price, uint64_t sum) {
+    return price == 0 ? 0 : sum - price;
+}
+
+/* The quote with its prices and those of the market turned: what was bid is offered. */
+static inline struct made_quote mirrored_quote(const struct made_quote *q, uint64_t sum) {
+    struct made_quote m = *q;
+    m.bid = sum - q->offer;
+    m.offer = sum - q->bid;
+    m.market.nbb = mirrored(q->market.nbo, sum);
+    m.market.nbo = mirrored(q->market.nbb, sum);
+    m.market.own_bid = mirrored(q->market.own_offer, sum);
+    m.market.own_offer = mirrored(q->market.own_bid, sum);
+    return m;
+}
+
 /* A bid at which some check could turn: near a market value or a strike, or any. */
 static inline uint64_t random_bid(const struct opc_market *k) {
     const uint64_t near[] = {k->underlying, k->nbb, k->nbo, k->own_bid, k->own_offer, 10000, 20000};

@@ -15,6 +15,8 @@
 #define LEGS_READ 100
 /* Of a line that starts a session; more cannot be read. */
 #define LIMITS_READ 100
+/* Of what is resting against a crossing quote; more cannot be read. */
+#define RESTING_READ 100
 
 /* What an order or a quote is checked against; `set` changes it. */
 struct terms {
@@ -104,6 +106,7 @@ enum request_kind {
     REQUEST_PAIR,
     REQUEST_FIX,
     REQUEST_QUOTE,
+    REQUEST_CROSSING,
     REQUEST_LIMITS,
     REQUEST_LOGIN_ORDER,
     REQUEST_LOGIN_FIX,
@@ -119,13 +122,15 @@ struct leg_bytes {
     uint8_t counts[LEGS_READ * OPC_COUNT_LENGTH];
 };
 
-/* Orders, message and quote point into the request, which so is not to be copied. */
+/* Orders, message and quotes point into the request, which so is not to be copied. */
 struct request {
     enum request_kind kind;
     struct opc_order order;
     struct opc_pair pair;
     struct opc_fix fix;
     struct opc_quote quote;
+    struct opc_crossing_quote crossing;
+    uint64_t resting_prices[RESTING_READ], resting_sizes[RESTING_READ];
     uint64_t limits[LIMITS_READ]; /* of a session that is started */
     size_t limits_len;
     uint64_t login;                               /* of an order, a message or a release */
@@ -422,13 +427,18 @@ static inline bool read_fix(struct line *line, struct request *request) {
     return true;
 }
 
-static inline bool read_quote(struct line *line, struct request *request) {
-    struct opc_quote *quote = &request->quote;
+/* Series, bid, offer and word, up to the line's end. */
+static inline bool take_quote(struct line *line, struct opc_quote *quote,
+                              uint8_t symbol[OPC_SYMBOL_LENGTH]) {
     const struct word words[] = {{"resting", &quote->resting, NULL}};
-    *quote = (struct opc_quote){.symbol = request->legs.symbols, .symbol_len = OPC_SYMBOL_LENGTH};
-    return take_series(line, request->legs.symbols) && take_dollars(line, "bid", &quote->bid) &&
+    *quote = (struct opc_quote){.symbol = symbol, .symbol_len = OPC_SYMBOL_LENGTH};
+    return take_series(line, symbol) && take_dollars(line, "bid", &quote->bid) &&
            take_dollars(line, "offer", &quote->offer) && take_words(line, words, COUNT(words)) &&
            is_at_end(line);
+}
+
+static inline bool read_quote(struct line *line, struct request *request) {
+    return take_quote(line, &request->quote, request->legs.symbols);
 }
 
 static inline bool take_whole(struct line *line, const char *name, uint64_t *number) {
@@ -438,6 +448,66 @@ static inline bool take_whole(struct line *line, const char *name, uint64_t *num
     }
     const char *trouble = read_whole(field, number);
     return trouble == NULL || fault(line, field, name, trouble);
+}
+
+static inline bool take_side(struct line *line, uint64_t *sell) {
+    struct field field;
+    if (!take(line, "side", &field)) {
+        return false;
+    }
+    *sell = is(field, "sell");
+    return *sell != 0 || is(field, "buy") || fault(line, field, "side", "is neither buy nor sell");
+}
+
+/* A price, a colon and a size, without blanks. */
+static inline bool take_resting(struct line *line, uint64_t *price, uint64_t *size) {
+    struct field field;
+    if (!take(line, "resting", &field)) {
+        return false;
+    }
+    const char *colon = memchr(field.text, ':', field.len);
+    if (colon == NULL) {
+        return fault(line, field, "resting", "is not PRICE:SIZE, such as 1.25:10");
+    }
+    const struct field dollars = {field.text, (size_t)(colon - field.text)};
+    const struct field contracts = without(field, dollars.len + 1);
+    const char *trouble = read_dollars(dollars, price);
+    if (trouble != NULL) {
+        return fault(line, dollars, "price", trouble);
+    }
+    trouble = read_whole(contracts, size);
+    return trouble == NULL || fault(line, contracts, "size", trouble);
+}
+
+/* What is resting, up to the '/'. */
+static inline bool take_list(struct line *line, struct request *request) {
+    size_t len = 0;
+    struct field next = next_field(line);
+    for (; !is(next, "/"); next = next_field(line)) {
+        if (next.len == 0) {
+            return fault(line, next, "/", "is missing");
+        }
+        if (len == RESTING_READ) {
+            return fault(line, next, "line", "has more than 100 that are resting");
+        }
+        if (!take_resting(line, &request->resting_prices[len], &request->resting_sizes[len])) {
+            return false;
+        }
+        len++;
+    }
+    pass(line, next);
+    request->crossing.prices = request->resting_prices;
+    request->crossing.sizes = request->resting_sizes;
+    request->crossing.prices_len = request->crossing.sizes_len = len;
+    return true;
+}
+
+/* What it is held against comes first; after the '/' it is a quote like any other. */
+static inline bool read_crossing(struct line *line, struct request *request) {
+    struct opc_crossing_quote *crossing = &request->crossing;
+    return take_side(line, &crossing->sell) && take_whole(line, "size", &crossing->size) &&
+           take_dollars(line, "away", &crossing->away) && take_list(line, request) &&
+           take_quote(line, &crossing->quote, request->legs.symbols);
 }
 
 /* One limit is every login's; of any other number of them each is one login's, from login 0 on. */
@@ -568,6 +638,7 @@ static inline bool read_request(struct line *line, const struct terms *now,
         {"pair", REQUEST_PAIR, read_pair},
         {"fix", REQUEST_FIX, read_fix},
         {"quote", REQUEST_QUOTE, read_quote},
+        {"cross", REQUEST_CROSSING, read_crossing},
         {"limits", REQUEST_LIMITS, read_limits},
         {"login", REQUEST_LOGIN_ORDER, read_login},
         {"release", REQUEST_RELEASE, read_release},
@@ -592,8 +663,8 @@ static inline bool read_request(struct line *line, const struct terms *now,
         }
     }
     return fault(line, word, "line",
-                 "begins with none of order, pair, fix, quote, limits, login, release, set, reset, "
-                 "show");
+                 "begins with none of order, pair, fix, quote, cross, limits, login, release, set, "
+                 "reset, show");
 }
 
 #endif

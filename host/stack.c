@@ -7,6 +7,7 @@
  * address, and everything below that was written to.
  */
 #define _XOPEN_SOURCE 700
+#include "made_crossing.h"
 #include "made_messages.h"
 #include "made_orders.h"
 #include "made_pairs.h"
@@ -44,6 +45,10 @@ static struct made_pair made_pair;
 static struct opc_pair_answer pair_answer;
 static struct made_quote made_quote;
 static struct opc_quote_answer quote_answer;
+static struct made_crossing made_crossing;
+static uint64_t fills[MADE_RESTING];
+static size_t fills_len;
+static struct opc_crossing_answer crossing_answer;
 
 /* Calls through a pointer that the compiler does not know: no entry is optimized away. */
 static void do_nothing(void) {}
@@ -103,6 +108,12 @@ static void call_check_pair(void) {
 static void call_check_quote(void) {
     quote_answer.number =
         opc_check_quote(EACH_OF_QUOTE(&made_quote), SLICES_OF(&made_quote), &quote_answer.cancel);
+}
+
+static void call_check_crossing(void) {
+    crossing_answer.number =
+        opc_check_crossing_quote(EACH_OF_CROSSING(&made_crossing), SLICES_OF(&made_crossing.quote),
+                                 fills, fills_len, LENT_OF_CROSSING(&crossing_answer));
 }
 
 static void on_painted_stack(void (*call)(void)) {
@@ -336,6 +347,32 @@ static size_t quote_inputs(void) {
     return inputs;
 }
 
+/* A crossing quote, right or not, with room for its fills or not. */
+static void make_crossing(void) {
+    made_crossing = random_crossing();
+    fills_len = one_in(4) ? below(MADE_RESTING + 1) : OPC_MAX_RESTING;
+    if (one_in(4)) {
+        damage_crossing(&made_crossing);
+    }
+}
+
+/* Then each kind of damage to the quote itself. */
+static size_t crossing_inputs(void) {
+    size_t inputs = 0;
+    for (; inputs < 4 * INPUTS_PER_KIND; inputs++) {
+        make_crossing();
+        on_painted_stack(call_check_crossing);
+    }
+    for (size_t kind = 0; kind < QUOTE_REFUSALS; kind++) {
+        for (size_t i = 0; i < INPUTS_PER_KIND; i++, inputs++) {
+            make_crossing();
+            damage_quote(&made_crossing.quote, quote_refusals[kind]);
+            on_painted_stack(call_check_crossing);
+        }
+    }
+    return inputs;
+}
+
 int main(void) {
     static const struct {
         const char *name;
@@ -353,6 +390,7 @@ int main(void) {
         {"opc_release_login", release_inputs},
         {"opc_check_pair", pair_inputs},
         {"opc_check_quote", quote_inputs},
+        {"opc_check_crossing_quote", crossing_inputs},
     };
     bool within = true;
     paint_stack();

@@ -23,10 +23,13 @@ struct slice {
 
 /*
  * What an entry was given last; of a message its flags, and of a quote bid, offer and resting, are
- * the first three terms. The agency order of a pair is kept as an order.
+ * the first three terms, of a crossing quote sell, size and away the others. The agency order of a
+ * pair is kept as an order.
  */
 static struct {
     struct slice symbols, counts, message, settings, market, limits, session;
+    struct slice prices, sizes;
+    size_t fills_len;
     uint64_t login;
     uint64_t terms[TERMS];
     struct opc_tally tally;
@@ -41,6 +44,7 @@ static struct {
     struct opc_tally tally;
     struct opc_pair_answer pair;
     struct opc_quote_answer quote;
+    struct opc_crossing_answer crossing;
 } told;
 
 /* The values are arbitrary: `what` says all that there is to say of a failure. */
@@ -195,6 +199,28 @@ uint64_t opc_check_quote(const uint8_t *symbol, size_t symbol_len, uint64_t bid,
     take_terms(settings, settings_len, market, market_len, terms);
     *cancel = told.quote.cancel;
     return told.quote.number;
+}
+
+/* The fills have no place but the answer's: what is written to them is seen there. */
+uint64_t opc_check_crossing_quote(const uint8_t *symbol, size_t symbol_len, uint64_t bid,
+                                  uint64_t offer, uint64_t resting, uint64_t sell, uint64_t size,
+                                  const uint64_t *prices, size_t prices_len, const uint64_t *sizes,
+                                  size_t sizes_len, uint64_t away, const uint64_t *settings,
+                                  size_t settings_len, const uint64_t *market, size_t market_len,
+                                  uint64_t *fills, size_t fills_len, uint64_t *cancel,
+                                  uint64_t *executed, uint64_t *booked, uint64_t *cancelled) {
+    const uint64_t terms[TERMS] = {bid, offer, resting, sell, size, away};
+    given.symbols = (struct slice){symbol, symbol_len};
+    given.prices = (struct slice){prices, prices_len};
+    given.sizes = (struct slice){sizes, sizes_len};
+    given.fills_len = fills_len;
+    take_terms(settings, settings_len, market, market_len, terms);
+    memcpy(fills, told.crossing.fills, sizeof told.crossing.fills);
+    *cancel = told.crossing.cancel;
+    *executed = told.crossing.executed;
+    *booked = told.crossing.booked;
+    *cancelled = told.crossing.cancelled;
+    return told.crossing.number;
 }
 
 /* Values that do not repeat: a step of an odd constant through all 64 bits. */
@@ -395,6 +421,33 @@ static void test_quote_wrapper(void) {
     expect(answer.cancel == told.quote.cancel, "the cancel flag");
 }
 
+static void test_crossing_wrapper(void) {
+    static const uint64_t prices[1], sizes[1];
+    make_sent();
+    const struct opc_crossing_quote crossing = {.quote = {.symbol = sent.symbols,
+                                                          .symbol_len = next_value(),
+                                                          .bid = sent.terms[0],
+                                                          .offer = sent.terms[1],
+                                                          .resting = sent.terms[2]},
+                                                .sell = sent.terms[3],
+                                                .size = sent.terms[4],
+                                                .prices = prices,
+                                                .prices_len = next_value(),
+                                                .sizes = sizes,
+                                                .sizes_len = next_value(),
+                                                .away = sent.terms[5]};
+    struct opc_crossing_answer answer =
+        opc_answer_crossing_quote(&crossing, &sent.settings, &sent.market);
+    expect_slice(given.symbols, sent.symbols, crossing.quote.symbol_len, "the symbol");
+    expect_slice(given.prices, prices, crossing.prices_len, "the prices");
+    expect_slice(given.sizes, sizes, crossing.sizes_len, "the sizes");
+    expect(memcmp(given.terms, sent.terms, sizeof given.terms) == 0,
+           "bid, offer, resting, sell, size and away");
+    expect_settings_and_market();
+    expect(given.fills_len == OPC_MAX_RESTING, "the number of fills");
+    expect(memcmp(&answer, &told.crossing, sizeof answer) == 0, "the answer to a crossing quote");
+}
+
 /* The initializers, value by value in the slices' sequence. */
 static void test_initializers(void) {
     static const uint64_t setting[OPC_SETTINGS_COUNT] = {1, 1, 1, 1, 1,   1, 1,   10, 10, 10,
@@ -472,6 +525,7 @@ int main(void) {
         test_start_and_release_wrappers();
         test_pair_wrapper();
         test_quote_wrapper();
+        test_crossing_wrapper();
     }
     test_initializers();
     test_session_numbers();

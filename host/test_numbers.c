@@ -2,12 +2,13 @@
  * Holds docs/HOST.md to the header and the library. Its table "The numbers" has the rows of the
  * header's table. Its table "The numbers of each entry" is read, and each entry must give every
  * number that it says and no other, in calls made by chance; the check of pairs gives each of its
- * two numbers so. Every class, shape and cancel flag is given too, and every way in which the
- * orders of a pair pass. Run at the top of the repository. Exit status 1 and a message on the first
- * failure, one line with the number of checks otherwise.
+ * two numbers so. Every class, shape and cancel flag is given too, every way in which the orders of
+ * a pair pass, and every end of a crossing quote. Run at the top of the repository. Exit status 1
+ * and a message on the first failure, one line with the number of checks otherwise.
  */
 #include "answers.h"
 #include "expect.h"
+#include "made_crossing.h"
 #include "made_messages.h"
 #include "made_orders.h"
 #include "made_pairs.h"
@@ -212,6 +213,20 @@ static uint64_t number_of_quote(void) {
     return opc_answer_quote(&quote, &q.settings, &q.market).number;
 }
 
+static struct opc_crossing_answer answer_to_crossing(void) {
+    struct made_crossing c = random_crossing();
+    if (one_in(3)) {
+        damage_crossing(&c);
+    }
+    if (one_in(3)) {
+        damage_quote(&c.quote, quote_refusals[below(QUOTE_REFUSALS)]);
+    }
+    struct opc_crossing_quote crossing = lend_crossing(&c);
+    return opc_answer_crossing_quote(&crossing, &c.quote.settings, &c.quote.market);
+}
+
+static uint64_t number_of_crossing(void) { return answer_to_crossing().number; }
+
 static void test_numbers(void) {
     static const struct {
         const char *name;
@@ -230,6 +245,7 @@ static void test_numbers(void) {
         {"opc_check_pair", number_of_agency},
         {"opc_check_pair", number_of_contra},
         {"opc_check_quote", number_of_quote},
+        {"opc_check_crossing_quote", number_of_crossing},
     };
     uint64_t all = 0, rows = 0;
     for (size_t i = 0; i < COUNT(entries); i++) {
@@ -307,11 +323,25 @@ static void test_passes(void) {
     expect(ways == numbers_in("0, 1, 3 |"), "a way to pass that no pair was given, or another");
 }
 
+/* Nothing; all is executed; or the rest is booked, or cancelled, after something or nothing. */
+static void test_ends(void) {
+    uint64_t ends = 0, flags = 0;
+    tried = "opc_check_crossing_quote";
+    for (size_t i = 0; i < RANDOM_CASES; i++) {
+        struct opc_crossing_answer a = answer_to_crossing();
+        ends |= only(end_of(&a));
+        flags |= only(a.cancel);
+    }
+    expect(ends == numbers_in("0 to 5 |"), "an end that no crossing quote had, or another");
+    expect(flags == numbers_in("0 to 1 |"), "a cancel flag that no crossing quote was given");
+}
+
 int main(void) {
     test_table();
     test_numbers();
     test_shapes_and_classes();
     test_cancel_flag();
     test_passes();
+    test_ends();
     return all_hold();
 }

@@ -204,22 +204,13 @@ static void test_random_bids_as_orders(void) {
     }
 }
 
-static uint64_t mirrored(uint64_t price, uint64_t sum) { return price == 0 ? 0 : sum - price; }
-
 /* Every price turned about a middle: with one tick for all, check 26 answers the same. */
 static void test_random_mirrored(void) {
-    const uint64_t sum = MOST_QUOTED + 1;
     for (size_t i = 0; i < RANDOM_CASES; i++) {
         struct made_quote q = random_quote();
         q.settings.tick_from_3000 = q.settings.tick_below_3000;
         q.settings.check_20 = q.settings.check_21 = 0;
-        struct made_quote m = q;
-        m.bid = sum - q.offer;
-        m.offer = sum - q.bid;
-        m.market.nbb = mirrored(q.market.nbo, sum);
-        m.market.nbo = mirrored(q.market.nbb, sum);
-        m.market.own_bid = mirrored(q.market.own_offer, sum);
-        m.market.own_offer = mirrored(q.market.own_bid, sum);
+        struct made_quote m = mirrored_quote(&q, MOST_QUOTED + 1);
         uint64_t number = number_of(&q);
         expect(number_of(&m) == number, "the offer does not mirror the bid");
     }

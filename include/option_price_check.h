@@ -8,14 +8,17 @@
  * one of the numbers of enum opc_number; it sets every lent number (every uint64_t pointer without
  * const and without a length) on every call, whatever was there before. A tally's four lent numbers
  * alone are read too. Slices (a const pointer and a length) are read, and never changed. A session
- * (a uint64_t pointer without const, and a length) is read, and changed where it lies.
+ * (a uint64_t pointer without const, and a length) is read, and changed where it lies. The fills of
+ * a crossing quote (a pointer and a length of that name) are written, every number of them on every
+ * call, whatever was there before, and never read for the answer.
  *
- * What an entry asks of its caller: a pointer to a slice, a session or a buffer is valid for the
- * length beside it, and is NULL only with length 0; a slice of numbers and a session are aligned to
- * 8 bytes, and their length is the number of numbers; a pointer to a lent number is valid and never
- * NULL; the lent numbers of one call are distinct, and neither they nor its session share memory
- * with each other, its slices or its buffer; nobody else reads or writes a session while a call has
- * it. So too an inline function, whose pointers to structs are valid and never NULL.
+ * What an entry asks of its caller: a pointer to a slice, a session, fills or a buffer is valid for
+ * the length beside it, and is NULL only with length 0; a slice of numbers, a session and fills are
+ * aligned to 8 bytes, and their length is the number of numbers; a pointer to a lent number is
+ * valid and never NULL; the lent numbers of one call are distinct, and neither they nor its session
+ * or fills share memory with each other, its slices or its buffer; nobody else reads or writes a
+ * session or fills while a call has them. So too an inline function, whose pointers to structs are
+ * valid and never NULL.
  *
  * For C11 or C++11, on x86-64; of the C library it needs no more than a freestanding one has.
  */
@@ -46,7 +49,7 @@ extern "C" {
 
 /* Of this face: one more with each change of an entry, its answers too, a struct, a number or a
  * limit. */
-#define OPC_VERSION 6
+#define OPC_VERSION 7
 
 /* What a number says of an order, a message, a quote or a symbol. */
 enum opc_outcome {
@@ -109,7 +112,9 @@ enum opc_outcome {
         "the share count is beyond its limit")                                                     \
     ROW(OPC_BAD_LOGIN, 34, REFUSED, "host", "login", "there is no such login: they are 0 to 31")   \
     ROW(OPC_RESTRICTED_LOGIN, 35, REFUSED, "trading firm", "restricted login",                     \
-        "the login has reached its limit of rejections, and is not released")
+        "the login has reached its limit of rejections, and is not released")                      \
+    ROW(OPC_BAD_CROSSING, 36, REFUSED, "trading firm", "crossing",                                 \
+        "the resting list, the away price or the quote's size is outside its limits")
 
 #define OPC_ENUMERATOR(name, number, outcome, author, word, meaning) name = number,
 enum opc_number { OPC_NUMBERS(OPC_ENUMERATOR) };
@@ -868,6 +873,96 @@ static inline struct opc_quote_answer opc_answer_quote(const struct opc_quote *q
     answer.number = opc_check_quote(quote->symbol, quote->symbol_len, quote->bid, quote->offer,
                                     quote->resting, (const uint64_t *)settings, OPC_SETTINGS_COUNT,
                                     (const uint64_t *)market, OPC_MARKET_COUNT, &answer.cancel);
+    return answer;
+}
+
+/* The most resting offers, or bids, that a quote can be held against. */
+#define OPC_MAX_RESTING 64
+
+/*
+ * A quote that may cross what is resting, and one side of it: its bid against the resting offers,
+ * or its offer against the resting bids. A price is in mills, 1 to 1000000000, a size in contracts,
+ * 1 to 1000000.
+ *
+ * The resting list has the best price first: offers by strictly rising price, bids by strictly
+ * falling price, so none has a price twice. There are 0 to OPC_MAX_RESTING of them. The away price
+ * is the best offer of the other exchanges, or for a sell their best bid.
+ */
+struct opc_crossing_quote {
+    struct opc_quote quote;
+    uint64_t sell; /* 0 is the bid against offers, any other value the offer against bids */
+    uint64_t size; /* of that bid or offer */
+    const uint64_t *prices; /* of what is resting, the best first */
+    size_t prices_len;
+    const uint64_t *sizes; /* of the same, in the same sequence */
+    size_t sizes_len;      /* the same as prices_len */
+    uint64_t away;         /* the best away price; 0 where it is missing */
+};
+
+/*
+ * The answer to a crossing quote. Where the number is OPC_ACCEPTED, executed, booked and cancelled
+ * together are the quote's size, executed is the sum of the fills, and booked or cancelled is 0;
+ * otherwise all of them are 0.
+ */
+struct opc_crossing_answer {
+    uint64_t number;                 /* as in enum opc_number */
+    uint64_t cancel;                 /* 1 if the resting quote is to be cancelled, else 0 */
+    uint64_t executed;               /* filled, of the size */
+    uint64_t booked;                 /* left over, and booked at the quote's price */
+    uint64_t cancelled;              /* left over, and cancelled */
+    uint64_t fills[OPC_MAX_RESTING]; /* of each in the list, in its sequence; 0 after its end */
+};
+
+/* Numbers alone: two answers are the same where their bytes are. */
+OPC_STATIC_ASSERT(sizeof(struct opc_crossing_answer) == (5 + OPC_MAX_RESTING) * sizeof(uint64_t),
+                  "five numbers and the fills");
+
+/*
+ * Checks a quote as opc_check_quote does, and tells what it would execute. The fields, with their
+ * limits and units, are those of struct opc_crossing_quote, the quote's one by one, opc_settings
+ * and opc_market, in the same sequence.
+ *
+ * Returns the first of these that applies:
+ *   the quote is refused,
+ *     OPC_NOT_21_BYTES, OPC_BAD_SYMBOL, OPC_BAD_SETTING, OPC_BAD_MARKET, OPC_BAD_QUOTE
+ *                       as opc_check_quote has them;
+ *   by a fault of the trading firm,
+ *     OPC_BAD_CROSSING  prices_len is not sizes_len, is above OPC_MAX_RESTING or is above
+ * fills_len; or a price of the list is not 1 to 1000000000, or not above the one before it (of a
+ * sell, not below); or a size of the list, or the quote's own, is not 1 to 1000000; or away is
+ * neither 0 nor 1 to 1000000000; the quote is valid, and rejected, OPC_CHECK_PUT, OPC_CHECK_CALL,
+ * OPC_CHECK_QUOTE_INVERSION as opc_check_quote has them; otherwise OPC_ACCEPTED.
+ *
+ * After OPC_ACCEPTED the quote's size is filled from the list, the first first, each up to its own
+ * size, at prices that are not above the bid nor, unless away is 0, above away, until the size is
+ * used up. What is left over is booked if away is 0 or the bid is below it, and else cancelled. A
+ * sell mirrors this: at prices not below the offer nor, unless away is 0, below away; booked if
+ * away is 0 or the offer is above it.
+ *
+ * fills is set to what each in the list fills, in its sequence, and to 0 after the list's end, all
+ * fills_len of them; *executed to their sum; *booked and *cancelled to what is left over. After any
+ * other number than OPC_ACCEPTED every number of fills and these three are 0. *cancel is set as
+ * opc_check_quote sets it, and to 0 after OPC_BAD_CROSSING.
+ */
+uint64_t OPC_CALL opc_check_crossing_quote(
+    const uint8_t *symbol, size_t symbol_len, uint64_t bid, uint64_t offer, uint64_t resting,
+    uint64_t sell, uint64_t size, const uint64_t *prices, size_t prices_len, const uint64_t *sizes,
+    size_t sizes_len, uint64_t away, const uint64_t *settings, size_t settings_len,
+    const uint64_t *market, size_t market_len, uint64_t *fills, size_t fills_len, uint64_t *cancel,
+    uint64_t *executed, uint64_t *booked, uint64_t *cancelled);
+
+/* opc_check_crossing_quote, with quote, settings, market and answer in structs. */
+static inline struct opc_crossing_answer
+opc_answer_crossing_quote(const struct opc_crossing_quote *crossing,
+                          const struct opc_settings *settings, const struct opc_market *market) {
+    const struct opc_quote *quote = &crossing->quote;
+    struct opc_crossing_answer answer;
+    answer.number = opc_check_crossing_quote(
+        quote->symbol, quote->symbol_len, quote->bid, quote->offer, quote->resting, crossing->sell,
+        crossing->size, crossing->prices, crossing->prices_len, crossing->sizes,
+        crossing->sizes_len, crossing->away, (const uint64_t *)settings, OPC_SETTINGS_COUNT,
+        (const uint64_t *)market, OPC_MARKET_COUNT, answer.fills, OPC_MAX_RESTING, &answer.cancel,
+        &answer.executed, &answer.booked, &answer.cancelled);
     return answer;
 }
 

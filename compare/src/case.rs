@@ -3,6 +3,7 @@
 
 use crate::{
     arrival::{Answer, Arrival},
+    crossing::{self, Crossing, CrossingAnswer},
     fix,
     message::Message,
     numbers::{kind, Kind},
@@ -301,5 +302,38 @@ impl Case for Quote {
         seen.count_lengths(&self.settings, &self.market);
         *seen.numbers.entry(answer.number).or_default() += 1;
         *seen.cancels.entry(answer.cancel).or_default() += 1;
+    }
+}
+
+impl Case for Crossing {
+    type Answer = CrossingAnswer;
+
+    fn library(&self) -> CrossingAnswer {
+        unit::check_crossing_quote(self)
+    }
+
+    fn second(&self) -> CrossingAnswer {
+        crossing::check(self)
+    }
+
+    fn described(&self) -> String {
+        format!(
+            "  sell {}, size {}, away {}, numbers for fills {}
+  resting at {:?}
+  of sizes {:?}
+{}",
+            self.sell,
+            self.size,
+            self.away,
+            self.fills_length,
+            self.prices,
+            self.sizes,
+            self.quote.described(),
+        )
+    }
+
+    fn count(&self, answer: &CrossingAnswer, seen: &mut Seen) {
+        let CrossingAnswer { number, cancel, .. } = *answer;
+        self.quote.count(&QuoteAnswer { number, cancel }, seen);
     }
 }

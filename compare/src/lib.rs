@@ -4,9 +4,9 @@
 //! `unit` is the library. `numbers` has every number with its kind, `slices` the names of settings,
 //! market and a login's numbers. The second implementation is `osi` for symbols, `order`, with
 //! `pairing`, `shape`, `class` and `checks` below it, for orders, `fix` for messages, `tally` for
-//! tallied ones of both, `session` for those of logins, `pair` for auction pairs, and `quote_check`
-//! for quotes. `cases` reads those of the repository's files, `generate` and `limits` make others
-//! up, and `run` puts them to both and counts.
+//! tallied ones of both, `session` for those of logins, `pair` for auction pairs, `quote_check` for
+//! quotes, and `crossing` for what they would execute. `cases` reads those of the repository's files,
+//! `generate` and `limits` make others up, and `run` puts them to both and counts.
 #![deny(unsafe_code)]
 
 pub mod arrival;
@@ -14,6 +14,7 @@ pub mod case;
 pub mod cases;
 pub mod checks;
 pub mod class;
+pub mod crossing;
 pub mod fix;
 pub mod generate;
 pub mod legs;

@@ -1,8 +1,8 @@
-//! The numbers of document 01, Number and its author, and of document 02, S-1, S-4 and S-6: each
-//! once, with its kind and of what it can be said, and which of them comes first.
+//! The numbers of document 01, Number and its author, and of document 02, S-1, S-4, S-6 and S-7:
+//! each once, with its kind and of what it can be said, and which of them comes first.
 
 use Kind::{Accepted, Refused, Rejected};
-use Of::{Message, Order, Quote, Release, Session, Start, Symbol, Tally};
+use Of::{Crossing, Message, Order, Quote, Release, Session, Start, Symbol, Tally};
 
 #[derive(Clone, Copy, Debug, PartialEq, Eq, PartialOrd, Ord)]
 pub enum Kind {
@@ -14,7 +14,8 @@ pub enum Kind {
 /// Of a symbol it is said by the reader or the writer. Of a tallied order or message all is said
 /// that is said of one without a tally, and more of its tally. Of either order of a pair the same is
 /// said as of an order. Of an order or a message in a session all is said that is said of one
-/// without, and more of its login and its session; a start and a release have their own.
+/// without, and more of its login and its session; a start and a release have their own. Of a
+/// crossing quote all is said that is said of a quote, and more of what it meets.
 #[derive(Clone, Copy, Debug, PartialEq, Eq)]
 pub enum Of {
     Symbol,
@@ -25,6 +26,7 @@ pub enum Of {
     Start,
     Release,
     Quote,
+    Crossing,
 }
 
 pub const ACCEPTED: u64 = 0;
@@ -40,10 +42,11 @@ pub const BAD_VALUE: u64 = 32;
 pub const BAD_SHARES: u64 = 33;
 pub const BAD_LOGIN: u64 = 34;
 pub const RESTRICTED_LOGIN: u64 = 35;
+pub const BAD_CROSSING: u64 = 36;
 
 /// In the sequence in which they are given: the first that applies, and 0 where no other does. Of
 /// messages 33 is never said, since an order has no shares there.
-const ALL: [(u64, Kind, &[Of]); 26] = [
+const ALL: [(u64, Kind, &[Of]); 27] = [
     (BAD_LOGIN, Refused, &[Session, Release]),
     (BAD_TALLY, Refused, &[Tally, Session, Start, Release]),
     (RESTRICTED_LOGIN, Refused, &[Session]),
@@ -62,6 +65,7 @@ const ALL: [(u64, Kind, &[Of]); 26] = [
     (BAD_SETTING, Refused, &[Order, Message, Start, Quote]),
     (BAD_MARKET, Refused, &[Order, Message, Quote]),
     (11, Refused, &[Quote]),
+    (BAD_CROSSING, Refused, &[Crossing]),
     (20, Rejected, &[Order, Message, Quote]),
     (21, Rejected, &[Order, Message, Quote]),
     (22, Rejected, &[Order, Message]),

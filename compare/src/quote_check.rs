@@ -19,7 +19,7 @@ use crate::{
     Parts,
 };
 
-const LARGEST_QUOTE: u64 = 1_000_000_000;
+pub const LARGEST_QUOTE: u64 = 1_000_000_000;
 
 pub fn check(quote: &Quote) -> QuoteAnswer {
     let read = osi::read(&quote.symbol);

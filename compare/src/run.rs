@@ -4,7 +4,6 @@
 use crate::{
     case::Case,
     limits::wrong_lengths,
-    numbers::{self, Of},
     random::{self, Random, SEED_VARIABLE},
     slices::{market, setting},
 };
@@ -154,10 +153,10 @@ to run it again, in compare/:
         self.given_each("shape", &self.seen.shapes, 0..=4, least);
     }
 
-    /// The same for quotes: each number that they can get, and both values of the cancel flag.
-    pub fn require_of_quotes(&self, least: u64) {
+    /// The same for quotes: each of some numbers, and both values of the cancel flag.
+    pub fn require_of_quotes(&self, numbers: &[u64], least: u64) {
         let seen = &self.seen;
-        self.given_each("number", &seen.numbers, numbers::of(Of::Quote), least);
+        self.given_each("number", &seen.numbers, numbers.iter().copied(), least);
         self.given_each("cancel", &seen.cancels, 0..=1, least);
         self.lent_each(least / 10);
     }

@@ -2,6 +2,7 @@
 
 use crate::{
     arrival::{Answer, Arrival},
+    crossing::{Crossing, CrossingAnswer},
     message::Message,
     pair::{Pair, PairAnswer},
     quote::{Quote, QuoteAnswer},
@@ -337,4 +338,63 @@ pub fn check_quote(quote: &Quote) -> QuoteAnswer {
         )
     };
     QuoteAnswer { number, cancel }
+}
+
+/// So many numbers before the fills and behind them, which must stay as they were.
+const GUARDS: usize = 8;
+
+pub fn check_crossing_quote(crossing: &Crossing) -> CrossingAnswer {
+    let end = GUARDS + crossing.fills_length;
+    let mut lent = vec![UNSET; end + GUARDS];
+    let mut answer = check_crossing_quote_into(crossing, &mut lent[GUARDS..end]);
+    answer.fills = lent[GUARDS..end].to_vec();
+    let guards = [&lent[..GUARDS], &lent[end..]].concat();
+    assert_eq!(
+        guards,
+        [UNSET; 2 * GUARDS],
+        "beside the fills of {crossing}"
+    );
+    answer
+}
+
+/// The answer but for the fills, which are left where they were lent.
+fn check_crossing_quote_into(crossing: &Crossing, fills: &mut [u64]) -> CrossingAnswer {
+    let quote = &crossing.quote;
+    let mut answer = CrossingAnswer {
+        number: UNSET,
+        cancel: UNSET,
+        executed: UNSET,
+        booked: UNSET,
+        cancelled: UNSET,
+        fills: Vec::new(),
+    };
+    // SAFETY: each pointer is valid for its length, that of the fills for writes too; they and the
+    // lent numbers are apart from each other and from the slices.
+    answer.number = unsafe {
+        call!(
+            opc_check_crossing_quote, quote,
+            [
+                symbol: *const u8 = quote.symbol.as_ptr(),
+                symbol_len: usize = quote.symbol.len(),
+                bid: u64 = quote.bid,
+                offer: u64 = quote.offer,
+                resting: u64 = quote.resting,
+                sell: u64 = crossing.sell,
+                size: u64 = crossing.size,
+                prices: *const u64 = crossing.prices.as_ptr(),
+                prices_len: usize = crossing.prices.len(),
+                sizes: *const u64 = crossing.sizes.as_ptr(),
+                sizes_len: usize = crossing.sizes.len(),
+                away: u64 = crossing.away,
+            ],
+            [fills: *mut u64 = fills.as_mut_ptr(), fills_len: usize = fills.len()],
+            [
+                cancel: answer.cancel,
+                executed: answer.executed,
+                booked: answer.booked,
+                cancelled: answer.cancelled,
+            ]
+        )
+    };
+    answer
 }

@@ -6,6 +6,7 @@ use compare::{
     arrival::Arrival,
     case::Case,
     cases,
+    crossing::{Crossing, CROSSING},
     generate::{self, sessions},
     message::{Message, MESSAGE},
     order,
@@ -26,6 +27,7 @@ fn replay() {
     let mut words = line.split_whitespace();
     match (words.next(), words.next()) {
         (Some(QUOTE), _) => again::<Quote>(&line),
+        (Some(CROSSING), _) => again::<Crossing>(&line),
         (Some(PAIR), _) => again::<Pair>(&line),
         (Some(MESSAGE), _) => again::<Message>(&line),
         (Some(TALLIED), Some(MESSAGE)) => again::<Tallied<Message>>(&line),
@@ -82,6 +84,7 @@ fn lines_read_back() {
         });
         reads_back(&generate::pair(&mut random));
         reads_back(&generate::quote(&mut random));
+        reads_back(&generate::crossing(&mut random));
     }
     for _ in 0..1_000 {
         calls_in_session_read_back(&mut random);

@@ -1,7 +1,8 @@
-//! Arrivals, messages, pairs, quotes and sessions made up at random, so biased that the rules meet:
-//! legs that form the known shapes or nearly do, prices at the limits that checks draw, settings,
-//! markets and logins at their own limits, and damage of every kind.
+//! Arrivals, messages, pairs, quotes, crossing quotes and sessions made up at random, so biased that
+//! the rules meet: legs that form the known shapes or nearly do, prices at the limits that checks
+//! draw, settings, markets and logins at their own limits, and damage of every kind.
 
+mod crossings;
 mod damage;
 mod legs;
 pub mod messages;
@@ -10,6 +11,7 @@ mod quotes;
 pub mod sessions;
 mod values;
 
+pub use crossings::{crossing, mirrored};
 pub use damage::damage;
 pub use legs::{draft, list_of};
 pub use messages::message;

@@ -3,6 +3,7 @@
 use super::situation::{self, Place, Side, Situation};
 use compare::{
     generate::quote,
+    numbers::{self, Of},
     quote::{Quote, QuoteAnswer},
     run::Run,
     slices::{market::*, setting::*},
@@ -33,7 +34,7 @@ fn both_give_the_same_answers() {
         met.count(&quote, &answer);
     }
     run.report();
-    run.require_of_quotes(LEAST_OF_EACH);
+    run.require_of_quotes(&numbers::of(Of::Quote), LEAST_OF_EACH);
     met.require();
 }
 

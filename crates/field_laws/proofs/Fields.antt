@@ -8,7 +8,7 @@ use lib.Dec.{eqb}
 use lib.ListN.{length, take, drop, length-append, length-drop}
 use lib.Seq.{length-take-le, take-append-seam, drop-append-add, drop-drop, take-add, slice}
 use borrow.Author.Tests.{eqb-true}
-use Rattle.rules.specs.Lists.{All, all, total}
+use Rattle.rules.specs.Lists.{All, all}
 use Rattle.rules.specs.Fix.{ahead, fieldsOf, bytesOf}
 use Rattle.rules.proofs.Tests.{and-both, not-eq}
 
@@ -32,12 +32,6 @@ pub bytes-append : (fs gs : List (List ℕ)) → bytesOf (fs ++ gs) ≡ bytesOf 
 unfolding bytesOf
 bytes-append [] gs = refl
 bytes-append (f ∷ fs) gs = ap (λ l. f ++ (1 ∷ l)) (bytes-append fs gs) ∙ sym (append-assoc f (1 ∷ bytesOf fs) (bytesOf gs))
-
--- the sum of bytes one behind the other
-pub total-append : (s t : List ℕ) → total (s ++ t) ≡ total s + total t
-unfolding total
-total-append [] t = omega arith
-total-append (b ∷ s) t = omega (arith, total-append s t)
 
 -- what fields there are: none where no byte is byte 1, else the bytes up to the first, and those of the rest
 pub data Fields (s : List ℕ) : Type 0 where

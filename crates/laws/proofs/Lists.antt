@@ -1,11 +1,12 @@
--- Tests of the elements of a list, of which all pass or one fails, and lists of the same numbers: by going along the list.
+-- Tests of the elements of a list, of which all pass or one fails, lists of the same numbers, and sums: by going along the list.
 use mathlib.Core.Path.{_≡_, refl, sym}
 use mathlib.Core.List.{List, [], _∷_, _++_}
 use mathlib.Core.Bool.{Bool, true, false, _&&_, true≢false}
-use Prim.Native.Nat.{ℕ}
+use Prim.Native.Nat.{ℕ, _+_}
+use native.Mathlib.Omega.{arith}
 use lib.Dec.{eqb}
 use borrow.Author.Tests.{eqb-true, eq-eqb}
-use Rattle.rules.specs.Lists.{All, all, any, every, sameNumbers}
+use Rattle.rules.specs.Lists.{All, all, any, every, total, sameNumbers}
 use Rattle.rules.proofs.Tests.{and-both, and-of, and-assoc}
 
 module _ {A : Type 0} (f : A → Bool) where
@@ -48,3 +49,9 @@ same-numbers [] [] h = refl
 same-numbers [] (y ∷ ys) h = absurd (true≢false (sym h))
 same-numbers (x ∷ xs) [] h = absurd (true≢false (sym h))
 same-numbers (x ∷ xs) (y ∷ ys) h = let k = and-both (eqb x y) _ h in rw (eqb-true x y (k .0), same-numbers xs ys (k .1))
+
+-- the sum of lists one behind the other
+pub total-append : (xs ys : List ℕ) → total (xs ++ ys) ≡ total xs + total ys
+unfolding total
+total-append [] ys = omega arith
+total-append (x ∷ xs) ys = omega (arith, total-append xs ys)

@@ -10,9 +10,9 @@ use Rattle.rules.specs.Lists.{all, any, total}
 use Rattle.rules.specs.Numerals.{value, numeral}
 use Rattle.rules.specs.Fix.{bytesOf, leadingDigits, tagOf, valueOf, allButLast, lastOf, isFrameTag, isFramed, hasFrame, howOften, before, valueAt, behind, digitsFor}
 use Rattle.rules.proofs.Tests.{and-no}
-use Rattle.field_laws.proofs.Fields.{bytes-append, total-append}
+use Rattle.field_laws.proofs.Fields.{bytes-append}
 use Rattle.message_theorems.specs.Groups.{Group, fieldsIn}
-use Rattle.laws.proofs.Lists.{all-joined, fails}
+use Rattle.laws.proofs.Lists.{all-joined, fails, total-append}
 use Rattle.message_theorems.proofs.Laws.{isOfGroup, last-behind, others-before}
 
 -- a group, fields between, another group, and fields behind it

@@ -2,6 +2,8 @@
 use amounts::pick;
 use chain::checked;
 use choice::both;
+use inputs::market_of;
+use inputs::settings_of;
 use inversion::quote_inversion;
 use put_call::call_test;
 use put_call::put_test;
@@ -13,7 +15,7 @@ use rules::Series;
 use rules::Settings;
 ghost use mathlib.Core.Path.{_≡_};
 ghost use mathlib.Core.Bool.{true};
-ghost use Rattle.rules.specs.Market.{settingsHold, marketHolds};
+ghost use Rattle.rules.specs.Market.{settingsOf, marketOf, settingsHold, marketHolds};
 ghost use Rattle.rules.specs.Quote.{quoteRejection, answeredQuote, checkQuote};
 
 // The number of the first check that applies, 0 if none. 20 and 21 test the bid.
@@ -41,8 +43,8 @@ fn answered_quote(resting: u64, number: u64) -> QuoteAnswer
     }
 }
 
-// The quote check on the host's bytes and numbers. A refusal leaves the resting quote alone.
-pub fn check_quote(
+// The quote check on the host's bytes. A refusal leaves the resting quote alone.
+fn check_quote(
     symbol: &[u8],
     bid: Mills,
     offer: Mills,
@@ -61,4 +63,20 @@ pub fn check_quote(
     }
     let series = q.series;
     answered_quote(resting, rejection(st, m, series, bid, offer))
+}
+
+// The quote check on the host's slices.
+pub fn check_slices(
+    symbol: &[u8],
+    bid: Mills,
+    offer: Mills,
+    resting: u64,
+    settings: &[u64],
+    market: &[u64],
+) -> QuoteAnswer
+    ensures { λ r. ⌜ r ≡ checkQuote (settingsOf (now (settings .entry))) (marketOf (now (market .entry))) (now (symbol .entry)) bid offer resting ⌝ }
+{
+    let set = settings_of(settings);
+    let values = market_of(market);
+    check_quote(symbol, bid, offer, resting, set, values)
 }

@@ -26,12 +26,13 @@ use Rattle.rules.specs.Kinds.{isRefused, isRejected}
 use Rattle.rules.specs.Numbers.{firstOf, refusals, refusal, rejections, rejection, judged, refused, outcome, checkLegs, checkOrder, areWhole, checkSlices}
 use Rattle.rules.specs.Symbol.{partsOf}
 use Rattle.rules.specs.Quote.{quoteRefusals, quoteRefusal, quoteRejections, quoteRejection, answeredQuote, quoteOutcome, checkQuote}
+use Rattle.rules.specs.Crossing.{Crossing, isBought, crossingPrice, isBadCrossing, executed, turned, crossingTests, crossingNumber, checkCrossing}
 use Rattle.rules.specs.Fix.{messageRefusals, messageRefusal, SaidOrder, orderIn, bodyOf, checkSaid, checkFix}
 use Rattle.rules.specs.Tally.{isBadTally, tallied, Call, order, message, ownAnswer, checkTallied}
 use Rattle.rules.specs.Session.{isWholeSession, isRejectionLimit, turnings, turnedAway, changedBy, checkInSession, releaseLogin, startSession}
 use Rattle.rules.specs.WithoutShares.{optionRefusals, optionRejections, optionsJudged, checkOptions}
-use Rattle.rules.specs.Demand1.{readerNumbers, Reader, writerNumbers, Writer, legNumbers, orderNumbers, OrderAnswers, OrderCheck, optionNumbers, messageNumbers, MessageCheck, quoteNumbers, QuoteAnswers, QuoteCheck, TalliedAnswers, callNumbers, TalliedCheck, turningNumbers, SessionAnswers, SessionCheck, releaseNumbers, ReleaseAnswers, Release, StartAnswers, Start, Numbered}
-use Rattle.rules.proofs.Tests.{and-both, not-eq, same-eq}
+use Rattle.rules.specs.Demand1.{readerNumbers, Reader, writerNumbers, Writer, legNumbers, orderNumbers, OrderAnswers, OrderCheck, optionNumbers, messageNumbers, MessageCheck, quoteNumbers, QuoteAnswers, QuoteCheck, crossingNumbers, CrossingAnswers, CrossingCheck, TalliedAnswers, callNumbers, TalliedCheck, turningNumbers, SessionAnswers, SessionCheck, releaseNumbers, ReleaseAnswers, Release, StartAnswers, Start, Numbered}
+use Rattle.rules.proofs.Tests.{and-both, or-neither, no-flag, not-eq, same-eq}
 use Rattle.rules.proofs.Symbols.{read-cases, write-cases}
 use Rattle.rules.proofs.Numbering.{first-passes}
 use Rattle.rules.proofs.WithoutShares.{legs-moved, no-size}
@@ -177,10 +178,6 @@ module _ (st : Settings) (m : Market) where
   unfolding checkQuote quoteOutcome
   quote-answers symbol bid offer resting = go (quoteRefusal st m symbol bid offer) (quote-refusal-number symbol bid offer)
     where
-      no-flag : (b : Bool) → _≡_ {A = ℕ} 0 (cond (b && false) 1 0)
-      no-flag true = refl
-      no-flag false = refl
-
       go : (k : ℕ) → refuses k ≡ true → QuoteAnswers resting (quoteOutcome k (answeredQuote resting (quoteRejection st m (seriesOf (partsOf symbol)) bid offer)))
       go zero h =
           let r = and-both _ _ (quote-rejection-number (seriesOf (partsOf symbol)) bid offer) in
@@ -192,10 +189,40 @@ module _ (st : Settings) (m : Market) where
           }
       go (suc k) h =
           let r = and-both _ _ h in
-          record { number = member (suc k) quoteNumbers (r .0); refusal = λ e. refl; flag = rw (not-eq (isRejected (suc k)) (r .1)) (no-flag (isYes resting)) }
+          record { number = member (suc k) quoteNumbers (r .0); refusal = λ e. refl; flag = rw (not-eq (isRejected (suc k)) (r .1)) (sym (no-flag (isYes resting))) }
 
 pub quote-check : QuoteCheck
 quote-check st m symbol bid offer resting = quote-answers st m symbol bid offer resting
+
+-- ---- crossing quotes
+
+module _ (st : Settings) (m : Market) (symbol : List ℕ) (bid offer : Mills) where
+  crossing-number : (bad : Bool) → isOf crossingNumbers (crossingNumber st m symbol bid offer bad) ≡ true
+  unfolding crossingNumber any all
+  crossing-number bad = first-passes (isOf crossingNumbers) (crossingTests st m symbol bid offer bad) refl refl
+
+  crossing-answers : (resting : ℕ) (c : Crossing) (room : ℕ) → CrossingAnswers resting room (checkCrossing st m symbol bid offer resting c room)
+  unfolding checkCrossing executed
+  crossing-answers resting c room = go (crossingNumber st m symbol bid offer (isBadCrossing room c)) (crossing-number _) (eqb (crossingNumber st m symbol bid offer (isBadCrossing room c)) 0)
+    where
+      bought : Bool
+      bought = isBought c
+
+      no-rejection : (n : ℕ) → isRefused n ≡ true → isRejected n ≡ false
+      no-rejection n h = or-neither (eqb n 0) (isRejected n) (not-eq _ h) .1
+
+      go : (n : ℕ) → isOf crossingNumbers n ≡ true → (b : Bool) → CrossingAnswers resting room (cond b (executed room bought (crossingPrice bought bid offer) c) (turned room n (cond (isYes resting && isRejected n) 1 0)))
+      go n h true = record { number = List·Memᴰ·head refl; refusal = λ e. refl; unexecuted = λ e. absurd (true≢false e); flag = sym (no-flag (isYes resting)) }
+      go n h false =
+          record {
+            number = member n crossingNumbers h;
+            refusal = λ e. ap (λ (b : Bool). cond (isYes resting && b) 1 0) (no-rejection n e) ∙ no-flag (isYes resting);
+            unexecuted = λ e. (refl, refl, refl, refl);
+            flag = refl;
+          }
+
+pub crossing-check : CrossingCheck
+crossing-check st m symbol bid offer resting c room = crossing-answers st m symbol bid offer resting c room
 
 -- ---- the tally
 
@@ -279,4 +306,4 @@ start limits s = go (isWholeSession s) refl (eqb (length limits) 32 && all isRej
 
 pub numbered : Numbered
 unfolding all any
-numbered = record { listed = refl; given = refl; kinds = refl; placed = refl; sequenced = refl; orders = refl; messages = refl; quotes = refl; turned = refl; releases = refl; starts = refl }
+numbered = record { listed = refl; given = refl; kinds = refl; placed = refl; sequenced = refl; orders = refl; messages = refl; quotes = refl; crossings = refl; turned = refl; releases = refl; starts = refl }

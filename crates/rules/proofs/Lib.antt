@@ -15,7 +15,9 @@ pub mod Pairs
 pub mod Figures
 pub mod StockOrders
 pub mod Sessions
+pub mod Crossings
 pub mod Demand1
+pub mod Executing
 pub mod Demand2
 pub mod Tallying
 pub mod Passing

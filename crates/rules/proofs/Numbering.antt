@@ -1,13 +1,13 @@
 -- The first of listed numbers: what holds of each that applies holds of it.
 use mathlib.Core.Path.{_≡_, refl, sym, ap, _∙_}
-use mathlib.Core.List.{List, [], _∷_}
+use mathlib.Core.List.{List, [], _∷_, _++_}
 use mathlib.Core.Bool.{Bool, true, false, cond, not, _&&_, true≢false}
 use Prim.Native.Nat.{ℕ, _≤_}
 use native.Mathlib.Omega.{arith}
 use lib.Dec.{eqb, leb}
 use borrow.Author.Tests.{leb-true, eq-eqb}
 use Rattle.rules.specs.Lists.{All, all}
-use Rattle.rules.proofs.Tests.{and-both}
+use Rattle.rules.proofs.Tests.{and-both, not-eq}
 use Rattle.rules.specs.declared.RawLeg.{RawLeg}
 use Rattle.rules.specs.declared.Terms.{Terms}
 use Rattle.rules.specs.declared.Leg.{Leg}
@@ -43,6 +43,13 @@ unfolding all firstOf
 none-apply [] s h = tt
 none-apply ((true, n) ∷ es) s h = absurd (true≢false (sym (and-both (not (eqb n 0)) _ s .0) ∙ ap not (eq-eqb n 0 h)))
 none-apply ((false, n) ∷ es) s h = (refl, none-apply es (and-both (not (eqb n 0)) _ s .1) h)
+
+-- of one list behind another: the first of the second, where the first gives 0
+pub first-behind : (es fs : List (Bool × ℕ)) → all (λ n. not (eqb n 0)) (named es) ≡ true → firstOf (es ++ fs) ≡ cond (eqb (firstOf es) 0) (firstOf fs) (firstOf es)
+unfolding all firstOf
+first-behind [] fs s = refl
+first-behind ((true, n) ∷ es) fs s = sym (ap (λ (b : Bool). cond b (firstOf fs) n) (not-eq (eqb n 0) (and-both (not (eqb n 0)) _ s .0)))
+first-behind ((false, n) ∷ es) fs s = first-behind es fs (and-both (not (eqb n 0)) _ s .1)
 
 -- what is given by a list whose numbers rise by their rank
 module _ (rank : ℕ → ℕ) where

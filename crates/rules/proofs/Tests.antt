@@ -2,10 +2,10 @@
 use mathlib.Core.Path.{_≡_, refl, sym}
 use mathlib.Core.List.{List, [], _∷_, _++_}
 use mathlib.Core.Logic.{_⊎_, inl, inr}
-use mathlib.Core.Bool.{Bool, true, false, not, _&&_, _||_, true≢false, Bool·beq}
+use mathlib.Core.Bool.{Bool, true, false, cond, not, _&&_, _||_, true≢false, Bool·beq}
 use Prim.Native.Nat.{ℕ, _≤_}
 use lib.Dec.{leb}
-use borrow.Author.Tests.{leb-true}
+use borrow.Author.Tests.{leb-true, le-leb}
 use Rattle.rules.specs.Limits.{within}
 use Rattle.rules.specs.Lists.{All, sameBool, every}
 
@@ -18,6 +18,9 @@ and-of {a} {b} p q = cc
 
 pub within-both : (least most x : ℕ) → within least most x ≡ true → (least ≤ x) × (x ≤ most)
 within-both least most x h = let k = and-both (leb least x) _ h in (leb-true least x (k .0), leb-true x most (k .1))
+
+pub both-within : (least most x : ℕ) → (least ≤ x) × (x ≤ most) → within least most x ≡ true
+both-within least most x h = and-of (le-leb least x (h .0)) (le-leb x most (h .1))
 
 pub and-no : (a : Bool) → a && false ≡ false
 and-no true = refl
@@ -50,6 +53,14 @@ or-either false b h = inr h
 pub or-neither : (a b : Bool) → a || b ≡ false → (a ≡ false) × (b ≡ false)
 or-neither true b h = (h, absurd (true≢false h))
 or-neither false b h = (refl, h)
+
+pub or-of : {a b : Bool} → a ≡ false → b ≡ false → a || b ≡ false
+or-of {a} {b} p q = cc
+
+-- a flag that a test which fails leaves clear
+pub no-flag : (b : Bool) → _≡_ {A = ℕ} (cond (b && false) 1 0) 0
+no-flag true = refl
+no-flag false = refl
 
 pub not-eq : (b : Bool) → not b ≡ true → b ≡ false
 not-eq true h = sym h

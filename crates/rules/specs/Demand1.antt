@@ -22,11 +22,12 @@ use Rattle.rules.specs.Symbol.{partsOf, readSymbol, writeSymbol, SymbolW
 use Rattle.rules.specs.Order.{isYes, termsOf, seriesOf}
 use Rattle.rules.specs.Market.{settingsOf, marketOf}
 use Rattle.rules.specs.Lists.{all, any}
-use Rattle.rules.specs.Kinds.{numbers, sequence, keepsTo, isRefused, isRejected, kindOf}
+use Rattle.rules.specs.Kinds.{numbers, sequence, keepsTo, isAccepted, isRefused, isRejected, kindOf}
 use Rattle.rules.specs.Numbers.{named, refusals, rejections, checkOrder, checkSlices}
 use Rattle.rules.specs.Quote.{quoteRefusals, quoteRejections, checkQuote}
 use Rattle.rules.specs.Fix.{messageRefusals, MessageInputs, checkFix}
 use Rattle.rules.specs.Pair.{PairOrder, checkPair}
+use Rattle.rules.specs.Crossing.{crossingTests, Crossing, Crossed, checkCrossing}
 use Rattle.rules.specs.WithoutShares.{optionRefusals, optionRejections}
 use Rattle.rules.specs.Tally.{Call, order, message, checkTallied}
 use Rattle.rules.specs.Session.{turnings, SessionAnswer, checkInSession, SessionLeft, releaseLogin, startRefusals, startSession}
@@ -116,6 +117,19 @@ pub record QuoteAnswers (resting : ℕ) (r : QuoteAnswer) : Type 0 where
 abbrev pub QuoteCheck : Type 0
 QuoteCheck = (st : Settings) (m : Market) (symbol : List ℕ) (bid offer : Mills) (resting : ℕ) → QuoteAnswers resting (checkQuote st m symbol bid offer resting)
 
+-- the check on a crossing quote (document 02, S-7), with `room` fills lent: a refusal leaves zeros alone, a rejection keeps the flag
+abbrev pub crossingNumbers : List ℕ
+crossingNumbers = 0 ∷ named (crossingTests anySettings anyMarket [] anyPrice anyPrice false)
+
+pub record CrossingAnswers (resting room : ℕ) (r : Crossed) : Type 0 where
+  pub number : List·Memᴰ (r .answer .number) crossingNumbers
+  pub refusal : isRefused (r .answer .number) ≡ true → r .answer .cancel ≡ 0
+  pub unexecuted : isAccepted (r .answer .number) ≡ false → (r .answer .executed ≡ 0) × (r .answer .booked ≡ 0) × (r .answer .cancelled ≡ 0) × (r .fills ≡ replicate room 0)
+  pub flag : r .answer .cancel ≡ cond (isYes resting && isRejected (r .answer .number)) 1 0
+
+abbrev pub CrossingCheck : Type 0
+CrossingCheck = (st : Settings) (m : Market) (symbol : List ℕ) (bid offer : Mills) (resting : ℕ) (c : Crossing) (room : ℕ) → CrossingAnswers resting room (checkCrossing st m symbol bid offer resting c room)
+
 -- a tallied check, of the tally that comes: a refusal's other fields but the tally are zero, and on 12 the tally is as it came
 pub record TalliedAnswers (ns : List ℕ) (t : Tally) (r : TalliedAnswer) : Type 0 where
   pub number : List·Memᴰ (r .answer .number) (12 ∷ ns)
@@ -167,7 +181,7 @@ Start = (limits s : List ℕ) → StartAnswers s (startSession limits s)
 
 -- "one of document 01's numbers", or of those that "join" them (document 02): `Kinds.numbers` lists those that the entries can give, and no other, each with its kind
 abbrev pub entryNumbers : List ℕ
-entryNumbers = readerNumbers ++ (writerNumbers ++ (orderNumbers ++ (messageNumbers ++ (turningNumbers ++ (releaseNumbers ++ (startNumbers ++ quoteNumbers))))))
+entryNumbers = readerNumbers ++ (writerNumbers ++ (orderNumbers ++ (messageNumbers ++ (turningNumbers ++ (releaseNumbers ++ (startNumbers ++ (quoteNumbers ++ crossingNumbers)))))))
 
 pub record Numbered : Type 0 where
   pub listed : all (λ n. any (λ e. eqb n (e .0)) numbers) entryNumbers ≡ true
@@ -175,11 +189,12 @@ pub record Numbered : Type 0 where
   pub kinds : map (λ e. kindOf (e .0)) numbers ≡ map (λ e. e .1) numbers
   -- each but 0 has its place in the sequence, and in that sequence they are tested; 12 comes before all that a tallied check can give, and what turns a login's order away before all that its check can
   pub placed : all (λ e. eqb (e .0) 0 || any (eqb (e .0)) sequence) numbers ≡ true
-  pub sequenced : all (λ ns. keepsTo sequence (drop 1 ns)) (readerNumbers ∷ writerNumbers ∷ (0 ∷ 12 ∷ drop 1 orderNumbers) ∷ (0 ∷ 12 ∷ drop 1 messageNumbers) ∷ (0 ∷ (turningNumbers ++ drop 1 orderNumbers)) ∷ (0 ∷ (turningNumbers ++ drop 1 messageNumbers)) ∷ releaseNumbers ∷ startNumbers ∷ quoteNumbers ∷ []) ≡ true
-  -- which of them an order, a message, a quote, a login's order or release and a start can get, read off the documents once more
+  pub sequenced : all (λ ns. keepsTo sequence (drop 1 ns)) (readerNumbers ∷ writerNumbers ∷ (0 ∷ 12 ∷ drop 1 orderNumbers) ∷ (0 ∷ 12 ∷ drop 1 messageNumbers) ∷ (0 ∷ (turningNumbers ++ drop 1 orderNumbers)) ∷ (0 ∷ (turningNumbers ++ drop 1 messageNumbers)) ∷ releaseNumbers ∷ startNumbers ∷ quoteNumbers ∷ crossingNumbers ∷ []) ≡ true
+  -- which of them an order, a message, a quote, a crossing quote, a login's order or release and a start can get, read off the documents once more
   pub orders : orderNumbers ≡ 0 ∷ 1 ∷ 3 ∷ 4 ∷ 5 ∷ 6 ∷ 7 ∷ 8 ∷ 33 ∷ 9 ∷ 10 ∷ 20 ∷ 21 ∷ 22 ∷ 23 ∷ 24 ∷ 25 ∷ []
   pub messages : messageNumbers ≡ 0 ∷ 30 ∷ 31 ∷ 32 ∷ 3 ∷ 4 ∷ 5 ∷ 6 ∷ 7 ∷ 8 ∷ 9 ∷ 10 ∷ 20 ∷ 21 ∷ 22 ∷ 23 ∷ 24 ∷ 25 ∷ []
   pub quotes : quoteNumbers ≡ 0 ∷ 1 ∷ 4 ∷ 9 ∷ 10 ∷ 11 ∷ 20 ∷ 21 ∷ 26 ∷ []
+  pub crossings : crossingNumbers ≡ 0 ∷ 1 ∷ 4 ∷ 9 ∷ 10 ∷ 11 ∷ 36 ∷ 20 ∷ 21 ∷ 26 ∷ []
   pub turned : turningNumbers ≡ 34 ∷ 12 ∷ 35 ∷ []
   pub releases : releaseNumbers ≡ 0 ∷ 34 ∷ 12 ∷ []
   pub starts : startNumbers ≡ 0 ∷ 12 ∷ 9 ∷ []

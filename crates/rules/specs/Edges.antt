@@ -39,7 +39,7 @@ module _ {A : Type 0} where
 abbrev limit : ℤ → Terms
 limit price = termsOf price 0 0 0 0 (pos 0)
 
-abbrev usual : Settings
+abbrev pub usual : Settings
 usual = exampleSettings 0
 
 abbrev asked : Settings → Market → Terms → List Lent → OrderAnswer
@@ -127,7 +127,7 @@ expiries =
     ∷ []
 
 -- nine market values
-abbrev market : ℕ → ℕ → ℕ → ℕ → ℕ → ℕ → ℕ → ℕ → ℕ → Market
+abbrev pub market : ℕ → ℕ → ℕ → ℕ → ℕ → ℕ → ℕ → ℕ → ℕ → Market
 market phase elsewhere extended underlying nbb nbo bid offer close =
     marketOf (phase ∷ elsewhere ∷ extended ∷ underlying ∷ nbb ∷ nbo ∷ bid ∷ offer ∷ close ∷ [])
 
@@ -151,7 +151,7 @@ styles =
     ∷ []
 
 -- the market with an underlying value only
-abbrev underlyingOf : ℕ → Market
+abbrev pub underlyingOf : ℕ → Market
 underlyingOf u = market 1 0 0 u 0 0 0 0 0
 
 abbrev call21 : Settings → Market → Terms → ℕ
@@ -328,10 +328,10 @@ switches =
     ∷ []
 
 -- what each number of a refusal needs
-abbrev badSettings : Settings
+abbrev pub badSettings : Settings
 badSettings = settingsOf (changed 7 0 exampleSlice)
 
-abbrev badMarket : Market
+abbrev pub badMarket : Market
 badMarket = market 3 0 0 0 0 0 0 0 0
 
 abbrev tooMuch : Terms
@@ -381,10 +381,10 @@ leastSlice = 0 ∷ 0 ∷ 0 ∷ 0 ∷ 0 ∷ 0 ∷ 0 ∷ 1 ∷ 1 ∷ 1 ∷ 2 ∷ 2
 abbrev mostSlice : List ℕ
 mostSlice = 0 ∷ 0 ∷ 0 ∷ 0 ∷ 0 ∷ 0 ∷ 0 ∷ 1000 ∷ 1000 ∷ 1000 ∷ 1000 ∷ 1000 ∷ 1000 ∷ 1000 ∷ 10000 ∷ 1000000 ∷ 1000000 ∷ 1000 ∷ 9 ∷ 9 ∷ []
 
-abbrev call : List ℕ
+abbrev pub call : List ℕ
 call = calls (pos 1) 20 .symbol
 
-abbrev put : List ℕ
+abbrev pub put : List ℕ
 put = puts (pos 1) 20 .symbol
 
 -- the order record of one leg sold, where zero may come as received: it is neither sign; and no shares are none, on either side

@@ -39,11 +39,12 @@ numbers =
     ∷ (33, refuses)
     ∷ (34, refuses)
     ∷ (35, refuses)
+    ∷ (36, refuses)
     ∷ []
 
--- the sequence in which they are tested: "The lowest number that applies is given, except that 12 comes first"; document 02 tests 34 "before everything", 35 "after 12 and before 30", 30 to 32 "before all else" but these, and 33 "after 8 and before 9"
+-- the sequence in which they are tested: "The lowest number that applies is given, except that 12 comes first"; document 02 tests 34 "before everything", 35 "after 12 and before 30", 30 to 32 "before all else" but these, 33 "after 8 and before 9", and 36 "after 11 and before 20"
 abbrev pub sequence : List ℕ
-sequence = 34 ∷ 12 ∷ 35 ∷ 30 ∷ 31 ∷ 32 ∷ 1 ∷ 2 ∷ 3 ∷ 4 ∷ 5 ∷ 6 ∷ 7 ∷ 8 ∷ 33 ∷ 9 ∷ 10 ∷ 11 ∷ 20 ∷ 21 ∷ 22 ∷ 23 ∷ 24 ∷ 25 ∷ 26 ∷ []
+sequence = 34 ∷ 12 ∷ 35 ∷ 30 ∷ 31 ∷ 32 ∷ 1 ∷ 2 ∷ 3 ∷ 4 ∷ 5 ∷ 6 ∷ 7 ∷ 8 ∷ 33 ∷ 9 ∷ 10 ∷ 11 ∷ 36 ∷ 20 ∷ 21 ∷ 22 ∷ 23 ∷ 24 ∷ 25 ∷ 26 ∷ []
 
 -- a number's place in such a list
 abbrev pub placeIn : List ℕ → ℕ → ℕ

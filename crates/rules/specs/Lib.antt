@@ -13,6 +13,7 @@ pub mod Kinds
 pub mod Numbers
 pub mod Valid
 pub mod Quote
+pub mod Crossing
 pub mod Fix
 pub mod Tally
 pub mod Session
@@ -27,5 +28,6 @@ pub mod Pairs
 pub mod Figures
 pub mod StockOrders
 pub mod Sessions
+pub mod Crossings
 pub mod Demand1
 pub mod Demand2

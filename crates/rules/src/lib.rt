@@ -131,6 +131,16 @@ pub struct QuoteAnswer {
     pub cancel: u64,
 }
 
+// What a crossing quote gets beside its fills: the quote check's answer, and of its size the part that executes, the
+// part that is booked and the part that is cancelled.
+pub struct CrossingAnswer {
+    pub number: u64,
+    pub cancel: u64,
+    pub executed: u64,
+    pub booked: u64,
+    pub cancelled: u64,
+}
+
 // A tally of order checks.
 pub struct Tally {
     pub seen: u64,

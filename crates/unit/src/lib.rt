@@ -1,4 +1,5 @@
 // The entries for a host in C: numbers and slices in, every lent number set on every call.
+pub mod crossings;
 pub mod messages;
 pub mod orders;
 pub mod pairs;

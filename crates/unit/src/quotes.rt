@@ -1,7 +1,5 @@
 // The entry for quotes.
-use inputs::market_of;
-use inputs::settings_of;
-use quote_check::check_quote;
+use quote_check::check_slices;
 use rules::Mills;
 ghost use mathlib.Core.Path.{_≡_};
 ghost use Rattle.rules.specs.Market.{settingsOf, marketOf};
@@ -20,9 +18,7 @@ pub extern "C" fn opc_check_quote(
 ) -> u64
     ensures { λ r. ⌜ record { number = r; cancel = now (cancel .exit) } ≡ checkQuote (settingsOf (now (settings .entry))) (marketOf (now (market .entry))) (now (symbol .entry)) (record { 0 = bid }) (record { 0 = offer }) resting ⌝ }
 {
-    let set = settings_of(settings);
-    let values = market_of(market);
-    let answer = check_quote(symbol, Mills(bid), Mills(offer), resting, set, values);
+    let answer = check_slices(symbol, Mills(bid), Mills(offer), resting, settings, market);
     *cancel = answer.cancel;
     answer.number
 }

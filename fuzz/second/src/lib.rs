@@ -10,6 +10,7 @@ mod seeds;
 use compare::{
     arrival::{Answer, Arrival},
     case::Case,
+    crossing::{self, Crossing},
     fix,
     message::Message,
     order, osi,
@@ -63,6 +64,29 @@ pub struct QuoteOf {
     bid: u64,
     offer: u64,
     resting: u64,
+}
+
+/// struct opc_crossing_quote.
+#[repr(C)]
+pub struct CrossingOf {
+    quote: QuoteOf,
+    sell: u64,
+    size: u64,
+    prices: *const u64,
+    prices_len: usize,
+    sizes: *const u64,
+    sizes_len: usize,
+    away: u64,
+}
+
+/// struct second_crossing_answer.
+#[repr(C)]
+pub struct WithoutFills {
+    number: u64,
+    cancel: u64,
+    executed: u64,
+    booked: u64,
+    cancelled: u64,
 }
 
 /// struct second_terms.
@@ -130,6 +154,18 @@ unsafe fn quote(quote: &QuoteOf, terms: &Terms) -> Quote {
     }
 }
 
+unsafe fn crossing(crossing: &CrossingOf, terms: &Terms, fills_length: usize) -> Crossing {
+    Crossing {
+        quote: quote(&crossing.quote, terms),
+        sell: crossing.sell,
+        size: crossing.size,
+        prices: lent(crossing.prices, crossing.prices_len),
+        sizes: lent(crossing.sizes, crossing.sizes_len),
+        away: crossing.away,
+        fills_length,
+    }
+}
+
 unsafe fn start(limits: *const u64, length: usize, session: &Session) -> Start {
     Start {
         limits: lent(limits, length),
@@ -152,13 +188,17 @@ unsafe fn release(login: u64, session: &Session) -> Release {
     }
 }
 
-/// Leaves the session as it is after a call; it is valid for writes.
-unsafe fn leave<G>(session: &Session, after: After<G>) -> G {
-    assert_eq!(after.session.len(), session.length);
-    if session.length > 0 {
-        let numbers = slice::from_raw_parts_mut(session.numbers, session.length);
-        numbers.copy_from_slice(&after.session);
+/// Leaves numbers where there are as many, which are valid for writes.
+unsafe fn write_numbers(pointer: *mut u64, length: usize, numbers: &[u64]) {
+    assert_eq!(numbers.len(), length);
+    if length > 0 {
+        slice::from_raw_parts_mut(pointer, length).copy_from_slice(numbers);
     }
+}
+
+/// Leaves the session as it is after a call.
+unsafe fn leave<G>(session: &Session, after: After<G>) -> G {
+    write_numbers(session.numbers, session.length, &after.session);
     after.given
 }
 
@@ -238,6 +278,24 @@ pub unsafe extern "C" fn second_check_quote(quote_of: &QuoteOf, terms: &Terms) -
 }
 
 #[no_mangle]
+pub unsafe extern "C" fn second_check_crossing_quote(
+    crossing_of: &CrossingOf,
+    terms: &Terms,
+    fills: *mut u64,
+    fills_length: usize,
+) -> WithoutFills {
+    let answer = crossing::check(&crossing(crossing_of, terms, fills_length));
+    write_numbers(fills, fills_length, &answer.fills);
+    WithoutFills {
+        number: answer.number,
+        cancel: answer.cancel,
+        executed: answer.executed,
+        booked: answer.booked,
+        cancelled: answer.cancelled,
+    }
+}
+
+#[no_mangle]
 pub unsafe extern "C" fn second_start_session(
     limits: *const u64,
     length: usize,
@@ -305,6 +363,15 @@ pub unsafe extern "C" fn second_print_pair(pair_of: &PairOf, terms: &Terms) {
 #[no_mangle]
 pub unsafe extern "C" fn second_print_quote(quote_of: &QuoteOf, terms: &Terms) {
     print(&quote(quote_of, terms));
+}
+
+#[no_mangle]
+pub unsafe extern "C" fn second_print_crossing_quote(
+    crossing_of: &CrossingOf,
+    terms: &Terms,
+    fills_length: usize,
+) {
+    print(&crossing(crossing_of, terms, fills_length));
 }
 
 #[no_mangle]

@@ -4,6 +4,7 @@
 use compare::{
     arrival::Arrival,
     cases,
+    crossing::Crossing,
     generate::{self, legs_of, list_of, reversed, sessions},
     osi,
     pair::Pair,
@@ -18,7 +19,8 @@ const RAW_CASES: usize = 100;
 const SHAPED_ROUNDS: usize = 400;
 
 /// As many bytes as the shaped form takes for most calls; a message takes more than its order, and so
-/// does a pair; a sequence of calls over a session takes more than a message.
+/// does a pair; a sequence of calls over a session takes more than a message, and so does a list of
+/// resting offers.
 const SHAPED_BYTES: usize = 120;
 const SHAPED_LONG_BYTES: usize = 180;
 const SHAPED_SEQUENCE_BYTES: usize = 240;
@@ -42,6 +44,7 @@ const START: u8 = 14;
 const ORDER_SESSION: u8 = 15;
 const FIX_SESSION: u8 = 16;
 const RELEASE: u8 = 17;
+const CROSSING: u8 = 18;
 
 /// Writes one file for each seed.
 ///
@@ -83,6 +86,7 @@ fn all() -> Vec<Vec<u8>> {
         seeds.push(tallied_message(&generate::arrival(&mut random), tally));
         seeds.push(pair(&generate::pair(&mut random)));
         seeds.push(quote(&generate::quote(&mut random)));
+        seeds.push(crossing(&generate::crossing(&mut random)));
         let symbol = legs_of(&list_of(&mut random, 1))[0].0;
         seeds.push(read(&symbol));
         seeds.push(write(&osi::read(&symbol).parts));
@@ -100,7 +104,7 @@ fn all() -> Vec<Vec<u8>> {
             let bytes = random.bytes(SHAPED_LONG_BYTES);
             seeds.push([&[entry, SHAPED], &bytes[..]].concat());
         }
-        for entry in [START, ORDER_SESSION, FIX_SESSION, RELEASE] {
+        for entry in [START, ORDER_SESSION, FIX_SESSION, RELEASE, CROSSING] {
             let bytes = random.bytes(SHAPED_SEQUENCE_BYTES);
             seeds.push([&[entry, SHAPED], &bytes[..]].concat());
         }
@@ -221,6 +225,18 @@ fn quote(quote: &Quote) -> Vec<u8> {
     seed.extend(&quote.symbol);
     numbers(&mut seed, &[quote.bid, quote.offer, quote.resting]);
     slices(&mut seed, &quote.settings, &quote.market);
+    seed
+}
+
+fn crossing(crossing: &Crossing) -> Vec<u8> {
+    let mut seed = quote(&crossing.quote);
+    seed[0] = CROSSING;
+    numbers(&mut seed, &[crossing.sell, crossing.size, crossing.away]);
+    for list in [&crossing.prices, &crossing.sizes] {
+        seed.push(list.len() as u8);
+        short_numbers(&mut seed, list);
+    }
+    seed.push(crossing.fills_length as u8);
     seed
 }
 
