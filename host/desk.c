@@ -684,6 +684,10 @@ static void answer_show(const struct desk *desk) {
     printf("\n");
 }
 
+static void answer_reset(const struct desk *desk) {
+    printf("%" PRIu64 ": reset: settings and market are those of the start\n", desk->line_number);
+}
+
 /* ---- a file of lines ---- */
 
 static void answer_request(struct desk *desk, const struct request *request) {
@@ -717,8 +721,7 @@ static void answer_request(struct desk *desk, const struct request *request) {
         answer_set(desk, request);
         break;
     case REQUEST_RESET:
-        printf("%" PRIu64 ": reset: settings and market are those of the start\n",
-               desk->line_number);
+        answer_reset(desk);
         break;
     case REQUEST_SHOW:
         answer_show(desk);

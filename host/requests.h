@@ -462,12 +462,13 @@ static inline bool take_side(struct line *line, uint64_t *sell) {
 /* A price, a colon and a size, without blanks. */
 static inline bool take_resting(struct line *line, uint64_t *price, uint64_t *size) {
     struct field field;
-    if (!take(line, "resting", &field)) {
+    if (!take(line, "offer or bid", &field)) {
         return false;
     }
     const char *colon = memchr(field.text, ':', field.len);
     if (colon == NULL) {
-        return fault(line, field, "resting", "is not PRICE:SIZE, such as 1.25:10");
+        return fault(line, field, "offer or bid",
+                     "is not PRICE:SIZE, such as 1.25:10; a / stands before the quote");
     }
     const struct field dollars = {field.text, (size_t)(colon - field.text)};
     const struct field contracts = without(field, dollars.len + 1);

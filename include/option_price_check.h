@@ -919,19 +919,23 @@ OPC_STATIC_ASSERT(sizeof(struct opc_crossing_answer) == (5 + OPC_MAX_RESTING) * 
 
 /*
  * Checks a quote as opc_check_quote does, and tells what it would execute. The fields, with their
- * limits and units, are those of struct opc_crossing_quote, the quote's one by one, opc_settings
- * and opc_market, in the same sequence.
+ * limits and units, are those of struct opc_crossing_quote, each field of its quote by itself,
+ * opc_settings and opc_market, in the same sequence.
  *
  * Returns the first of these that applies:
- *   the quote is refused,
- *     OPC_NOT_21_BYTES, OPC_BAD_SYMBOL, OPC_BAD_SETTING, OPC_BAD_MARKET, OPC_BAD_QUOTE
- *                       as opc_check_quote has them;
- *   by a fault of the trading firm,
- *     OPC_BAD_CROSSING  prices_len is not sizes_len, is above OPC_MAX_RESTING or is above
- * fills_len; or a price of the list is not 1 to 1000000000, or not above the one before it (of a
- * sell, not below); or a size of the list, or the quote's own, is not 1 to 1000000; or away is
- * neither 0 nor 1 to 1000000000; the quote is valid, and rejected, OPC_CHECK_PUT, OPC_CHECK_CALL,
- * OPC_CHECK_QUOTE_INVERSION as opc_check_quote has them; otherwise OPC_ACCEPTED.
+ *   the quote is refused as by opc_check_quote,
+ *     OPC_NOT_21_BYTES, OPC_BAD_SYMBOL, OPC_BAD_SETTING, OPC_BAD_MARKET, OPC_BAD_QUOTE;
+ *   it is refused by a fault of the trading firm,
+ *     OPC_BAD_CROSSING           prices_len is not sizes_len, is above OPC_MAX_RESTING or is above
+ *                                fills_len;
+ *                                a price of the list is not 1 to 1000000000, or is not above the
+ *                                one before it, for a sell not below;
+ *                                a size of the list, or the quote's own, is not 1 to 1000000;
+ *                                away is neither 0 nor 1 to 1000000000;
+ *   the quote is valid, and rejected as by opc_check_quote,
+ *     OPC_CHECK_PUT, OPC_CHECK_CALL, OPC_CHECK_QUOTE_INVERSION;
+ *   otherwise
+ *     OPC_ACCEPTED.
  *
  * After OPC_ACCEPTED the quote's size is filled from the list, the first first, each up to its own
  * size, at prices that are not above the bid nor, unless away is 0, above away, until the size is

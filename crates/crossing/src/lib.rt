@@ -18,7 +18,7 @@ ghost use Prim.Native.Nat.{_≤_};
 ghost use lib.ListN.{length, replicate};
 ghost use Rattle.rules.specs.Order.{isYes};
 ghost use Rattle.rules.specs.Kinds.{isRefused};
-ghost use Rattle.rules.specs.Crossing.{crossingPrice, executed, unexecuted};
+ghost use Rattle.rules.specs.Crossing.{crossingPrice, execution, unexecuted};
 ghost use Rattle.crossing.specs.ByQuote.{crossedBy};
 
 // Neither accepted nor rejected.
@@ -48,7 +48,7 @@ fn unexecuted(number: u64, cancel: u64) -> CrossingAnswer
     }
 }
 
-// Fills the list, of which nothing is filled yet; the rest of the size is booked or cancelled.
+// Fills the list, of which nothing is filled yet; the remainder of the size is booked or cancelled.
 fn execute(
     bid: Mills,
     offer: Mills,
@@ -60,8 +60,7 @@ fn execute(
     fills: &mut [u64],
 ) -> CrossingAnswer
     requires { ⌜ (length (now sizes) ≡ length (now prices)) × (length (now prices) ≤ length (now fills)) × (now fills ≡ replicate (length (now fills)) 0) ⌝ }
-    ensures { λ r. ⌜ r ≡ executed (length (now (fills .entry))) (not (isYes sell)) (crossingPrice (not (isYes sell)) bid offer) (record { sell = sell; size = size; prices = now (prices .entry); sizes = now (sizes .entry); away = away }) .answer ⌝ }
-    ensures { λ _. ⌜ now (fills .exit) ≡ executed (length (now (fills .entry))) (not (isYes sell)) (crossingPrice (not (isYes sell)) bid offer) (record { sell = sell; size = size; prices = now (prices .entry); sizes = now (sizes .entry); away = away }) .fills ⌝ }
+    ensures { λ r. ⌜ record { answer = r; fills = now (fills .exit) } ≡ execution (length (now (fills .entry))) (crossingPrice (not (isYes sell)) bid offer) (record { sell = sell; size = size; prices = now (prices .entry); sizes = now (sizes .entry); away = away }) ⌝ }
 {
     let bought = is_bought(sell);
     let price = crossing_price(bought, bid, offer);
@@ -96,8 +95,7 @@ pub fn cross(
     away: Mills,
     fills: &mut [u64],
 ) -> CrossingAnswer
-    ensures { λ r. ⌜ r ≡ crossedBy quote bid offer (record { sell = sell; size = size; prices = now (prices .entry); sizes = now (sizes .entry); away = away }) (length (now (fills .entry))) .answer ⌝ }
-    ensures { λ _. ⌜ now (fills .exit) ≡ crossedBy quote bid offer (record { sell = sell; size = size; prices = now (prices .entry); sizes = now (sizes .entry); away = away }) (length (now (fills .entry))) .fills ⌝ }
+    ensures { λ r. ⌜ record { answer = r; fills = now (fills .exit) } ≡ crossedBy quote bid offer (record { sell = sell; size = size; prices = now (prices .entry); sizes = now (sizes .entry); away = away }) (length (now (fills .entry))) ⌝ }
 {
     clear(fills);
     if is_refused(quote.number) {

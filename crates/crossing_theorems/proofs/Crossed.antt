@@ -14,7 +14,7 @@ use Rattle.rules.specs.declared.CrossingAnswer.{CrossingAnswer}
 use Rattle.rules.specs.Order.{isYes}
 use Rattle.rules.specs.Kinds.{isRefused, isRejected}
 use Rattle.rules.specs.Quote.{checkQuote}
-use Rattle.rules.specs.Crossing.{Crossing, isBought, crossingPrice, isBadCrossing, executed, turned, checkCrossing}
+use Rattle.rules.specs.Crossing.{Crossing, isBought, crossingPrice, isBadCrossing, execution, unfilled, checkCrossing}
 use Rattle.rules.proofs.Tests.{no-flag}
 use Rattle.rules.proofs.Executing.{gets-refused, gets-36, gets-rejected, gets-executed}
 use Rattle.rules.proofs.Demand1.{quote-check}
@@ -31,15 +31,15 @@ module _ (st : Settings) (m : Market) (symbol : List ℕ) (bid offer : Mills) (r
   r = checkCrossing st m symbol bid offer resting c room .answer
 
   of-quote : OfQuote c room q r
-  unfolding executed
+  unfolding execution
   of-quote =
       record {
         refused = gets-own;
-        turned = λ h b. both 36 0 (gets-36 st m symbol bid offer resting c room h b);
+        bad = λ h b. both 36 0 (gets-36 st m symbol bid offer resting c room h b);
         own = λ b. go (isRefused (q .number)) refl (eqb (q .number) 0) refl b;
       }
     where
-      both : (n cancel : ℕ) → checkCrossing st m symbol bid offer resting c room ≡ turned room n cancel → (r .number ≡ n) × (r .cancel ≡ cancel)
+      both : (n cancel : ℕ) → checkCrossing st m symbol bid offer resting c room ≡ unfilled room n cancel → (r .number ≡ n) × (r .cancel ≡ cancel)
       both n cancel e = (ap (λ x. x .answer .number) e, ap (λ x. x .answer .cancel) e)
 
       gets-own : isRefused (q .number) ≡ true → (r .number ≡ q .number) × (r .cancel ≡ q .cancel)
@@ -64,7 +64,7 @@ module _ (st : Settings) (m : Market) (symbol : List ℕ) (bid offer : Mills) (r
       go : (b : Bool) → isBadCrossing room c ≡ b → (d : Bool) → isRefused (q .number) ≡ d → b ≡ false
       go false e d f = refl
       go true e true f = let z = of-quote .refused f .0 in absurd (true≢false (sym f ∙ ap isRefused (sym z ∙ h)))
-      go true e false f = let z = of-quote .turned f e .0 in absurd (omega (arith, z, h))
+      go true e false f = let z = of-quote .bad f e .0 in absurd (omega (arith, z, h))
 
   as-executed : r .number ≡ 0 → Executes (crossingPrice (isBought c) bid offer .0) c room (checkCrossing st m symbol bid offer resting c room)
   as-executed h =

@@ -9,7 +9,7 @@ use lib.ListN.{length, getD}
 use borrow.Author.Tests.{eqb-true, eq-eqb, le-ltb, not-true, not-false}
 use Rattle.rules.specs.Lists.{all}
 use Rattle.rules.specs.Market.{isMissing, atOrPast}
-use Rattle.rules.specs.Crossing.{Crossing, isBought, isPrice, isSize, leads, inSequence, isTooLong, isBadCrossing}
+use Rattle.rules.specs.Crossing.{Crossing, isBought, isPrice, isSize, leads, inSequence, listHolds, areBadLengths, isBadCrossing}
 use Rattle.rules.proofs.Tests.{and-both, and-of, or-either, or-neither, or-of, within-both, both-within}
 use Rattle.rules.proofs.Executing.{good-lengths}
 use Rattle.crossing_theorems.specs.Crossed.{Better, IsPrice, Good}
@@ -45,11 +45,11 @@ module _ (bought : Bool) where
 
 module _ (room : ℕ) (c : Crossing) where
   pub is-good : isBadCrossing room c ≡ false → Good room c
-  unfolding isBadCrossing isTooLong
+  unfolding isBadCrossing areBadLengths
   is-good h =
-      let k = or-neither (isTooLong room (c .prices) (c .sizes)) _ h in
+      let k = or-neither (areBadLengths room (c .prices) (c .sizes)) _ h in
       let l = good-lengths room c h in
-      let n = or-neither (not (all isPrice (c .prices) && (all isSize (c .sizes) && inSequence (isBought c) (c .prices)))) _ (k .1) in
+      let n = or-neither (not (listHolds (isBought c) (c .prices) (c .sizes))) _ (k .1) in
       let p = and-both (all isPrice (c .prices)) _ (not-false _ (n .0)) in
       let q = and-both (all isSize (c .sizes)) _ (p .1) in
       let r = or-neither (not (isSize (c .size))) _ (n .1) in
@@ -65,7 +65,7 @@ module _ (room : ℕ) (c : Crossing) where
       }
 
   pub is-not-bad : Good room c → isBadCrossing room c ≡ false
-  unfolding isBadCrossing isTooLong
+  unfolding isBadCrossing areBadLengths
   is-not-bad g =
       let sized = g .sized in
       or-of

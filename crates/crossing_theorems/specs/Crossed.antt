@@ -14,7 +14,7 @@ use Rattle.rules.specs.Lists.{total}
 use Rattle.rules.specs.Kinds.{isRefused}
 use Rattle.rules.specs.Quote.{checkQuote}
 use Rattle.rules.specs.Market.{isMissing}
-use Rattle.rules.specs.Crossing.{Crossing, isBought, crossingPrice, isBadCrossing, Crossed, executed, checkCrossing}
+use Rattle.rules.specs.Crossing.{Crossing, isBought, crossingPrice, isBadCrossing, Crossed, execution, checkCrossing}
 
 -- A bid (`bought` true) meets offers: lower ones are better. An offer meets bids: higher ones are better.
 abbrev pub Better : Bool → ℕ → ℕ → Type 0
@@ -22,9 +22,9 @@ Better true p q = p < q
 Better false p q = q < p
 
 -- `p` is at `q` or better
-abbrev pub AtBest : Bool → ℕ → ℕ → Type 0
-AtBest true p q = p ≤ q
-AtBest false p q = q ≤ p
+abbrev pub AtOrBetter : Bool → ℕ → ℕ → Type 0
+AtOrBetter true p q = p ≤ q
+AtOrBetter false p q = q ≤ p
 
 -- the resting price and size at a place of the list, and what it fills
 abbrev pub priceAt : Crossing → ℕ → ℕ
@@ -50,17 +50,17 @@ pub record Good (room : ℕ) (c : Crossing) : Type 0 where
   pub sized : length (c .sizes) ≡ length (c .prices)
   pub prices : (i : ℕ) → i < length (c .prices) → IsPrice (priceAt c i)
   pub sizes : (i : ℕ) → i < length (c .prices) → IsSize (sizeAt c i)
-  -- "by strictly rising price", of a sell falling
+  -- "by strictly rising price", falling for a sell
   pub sequence : (i j : ℕ) → i < j → j < length (c .prices) → Better (isBought c) (priceAt c i) (priceAt c j)
   pub size : IsSize (c .size)
   -- "away 0 if missing"
   pub away : (c .away .0 ≡ 0) ⊎ IsPrice (c .away .0)
 
 -- a resting price that a quote at `price` may fill: "not above the bid or the away offer"
-pub record MayFill (bought : Bool) (price away p : ℕ) : Type 0 where
-  pub quote : AtBest bought p price
+pub record MayFill (bought : Bool) (price awayPrice p : ℕ) : Type 0 where
+  pub quote : AtOrBetter bought p price
   -- "A missing away offer sets no bound"
-  pub elsewhere : (away ≡ 0 → ⊥) → AtBest bought p away
+  pub away : (awayPrice ≡ 0 → ⊥) → AtOrBetter bought p awayPrice
 
 -- what a quote at `price` with the number 0 executes
 pub record Executes (price : ℕ) (c : Crossing) (room : ℕ) (r : Crossed) : Type 0 where
@@ -76,32 +76,32 @@ pub record Executes (price : ℕ) (c : Crossing) (room : ℕ) (r : Crossed) : Ty
   -- "fill lowest first": an offer is filled only if every better one is filled whole
   pub first : (i j : ℕ) → j < length (c .prices) → Better (isBought c) (priceAt c j) (priceAt c i) → 0 < fillAt r i → fillAt r j ≡ sizeAt c j
   -- where something is left over, every offer at an allowed price is filled whole
-  pub rest : (0 < r .answer .booked + r .answer .cancelled) → (i : ℕ) → i < length (c .prices) → MayFill (isBought c) price (c .away .0) (priceAt c i) → fillAt r i ≡ sizeAt c i
+  pub remainder : (0 < r .answer .booked + r .answer .cancelled) → (i : ℕ) → i < length (c .prices) → MayFill (isBought c) price (c .away .0) (priceAt c i) → fillAt r i ≡ sizeAt c i
   -- "booked if the bid is below the away offer, else cancelled. A missing away offer [..] books."
   pub booked : 0 < r .answer .booked → (r .answer .cancelled ≡ 0) × ((c .away .0 ≡ 0) ⊎ Better (isBought c) price (c .away .0))
-  pub cancelled : 0 < r .answer .cancelled → (r .answer .booked ≡ 0) × (c .away .0 ≡ 0 → ⊥) × AtBest (isBought c) (c .away .0) price
+  pub cancelled : 0 < r .answer .cancelled → (r .answer .booked ≡ 0) × (c .away .0 ≡ 0 → ⊥) × AtOrBetter (isBought c) (c .away .0) price
 
 -- the number and the flag of a crossing quote, by the quote check's
 pub record OfQuote (c : Crossing) (room : ℕ) (q : QuoteAnswer) (r : CrossingAnswer) : Type 0 where
   -- 36 comes "after 11"
   pub refused : isRefused (q .number) ≡ true → (r .number ≡ q .number) × (r .cancel ≡ q .cancel)
   -- "and before 20"
-  pub turned : isRefused (q .number) ≡ false → isBadCrossing room c ≡ true → (r .number ≡ 36) × (r .cancel ≡ 0)
+  pub bad : isRefused (q .number) ≡ false → isBadCrossing room c ≡ true → (r .number ≡ 36) × (r .cancel ≡ 0)
   -- they are the quote check's own wherever 36 does not apply
   pub own : isBadCrossing room c ≡ false → (r .number ≡ q .number) × (r .cancel ≡ q .cancel)
 
--- "Sell quotes mirror this": each price turned about, so that the lowest becomes the highest; a missing one stays missing
-abbrev pub turnedPrice : ℕ → ℕ
-turnedPrice p = 1000000001 - p
+-- "Sell quotes mirror this": each price mirrored, so that the lowest becomes the highest; a missing one stays missing
+abbrev pub mirroredPrice : ℕ → ℕ
+mirroredPrice p = 1000000001 - p
 
 abbrev pub mirrored : Crossing → Crossing
 mirrored c =
     record {
       sell = cond (isBought c) 1 0;
       size = c .size;
-      prices = map turnedPrice (c .prices);
+      prices = map mirroredPrice (c .prices);
       sizes = c .sizes;
-      away = cond (isMissing (c .away)) (c .away) (record { 0 = turnedPrice (c .away .0) });
+      away = cond (isMissing (c .away)) (c .away) (record { 0 = mirroredPrice (c .away .0) });
     }
 
 pub record CrossingTheorem : Type 0 where
@@ -113,4 +113,4 @@ pub record CrossingTheorem : Type 0 where
   pub executes : (st : Settings) (m : Market) (symbol : List ℕ) (bid offer : Mills) (resting : ℕ) (c : Crossing) (room : ℕ) → checkCrossing st m symbol bid offer resting c room .answer .number ≡ 0
       → Executes (crossingPrice (isBought c) bid offer .0) c room (checkCrossing st m symbol bid offer resting c room)
   pub mirror : (room : ℕ) (price : Mills) (c : Crossing) → IsPrice (price .0) → Good room c
-      → Good room (mirrored c) × (executed room (isBought (mirrored c)) (record { 0 = turnedPrice (price .0) }) (mirrored c) ≡ executed room (isBought c) price c)
+      → Good room (mirrored c) × (execution room (record { 0 = mirroredPrice (price .0) }) (mirrored c) ≡ execution room price c)

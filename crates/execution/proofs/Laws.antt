@@ -92,7 +92,7 @@ past-short : (bought : Bool) (x y z : ℕ) → atOrPast bought x y ≡ false →
 past-short true x y z h k = let a = leb-false y x h in let b = leb-true z x k in le-leb z y (omega arith)
 past-short false x y z h k = let a = leb-false x y h in let b = leb-true x z k in le-leb y z (omega arith)
 
--- where the rest is cancelled, what is within reach of the away price is within reach of the quote's own
+-- where the remainder is cancelled, what is within reach of the away price is within reach of the quote's own
 module _ (bought : Bool) (price away : Mills) where
   pub may-fill-at : (p : ℕ) → mayFill bought price away p ≡ atOrPast bought (furthest (isBooked bought price away) price away .0) p
   unfolding mayFill isBooked

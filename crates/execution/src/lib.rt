@@ -1,4 +1,4 @@
-// What a crossing quote fills of the resting list, and what becomes of the rest of its size.
+// What a crossing quote fills of the resting list, and what becomes of the remainder of its size.
 use amounts::pick;
 use amounts::smaller;
 use choice::either;
@@ -18,21 +18,21 @@ ghost use Rattle.execution.specs.Bounds.{furthest};
 pub fn clear(fills: &mut [u64])
     ensures { λ _. ⌜ now (fills .exit) ≡ replicate (length (now (fills .entry))) 0 ⌝ }
 {
-    let mut i = 0;
-    while i < fills.len() {
-        fills[i] = 0;
-        i += 1;
+    let mut at = 0;
+    while at < fills.len() {
+        fills[at] = 0;
+        at += 1;
     }
 }
 
-// Whether the rest is booked: the quote's price is short of the away price, or there is none.
+// Whether the remainder is booked: the quote's price is short of the away price, or there is none.
 pub fn is_booked(bought: bool, price: Mills, away: Mills) -> bool
     ensures { λ r. ⌜ r ≡ isBooked bought price away ⌝ }
 {
     either(away.0 == 0, negated(at_or_past(bought, price, away)))
 }
 
-// The furthest price that the quote may fill: its own where the rest is booked, else the away price, which is nearer.
+// The furthest price that the quote may fill: its own where the remainder is booked, else the away price, which is nearer.
 pub fn furthest(booked: bool, price: Mills, away: Mills) -> Mills
     ensures { λ r. ⌜ r ≡ furthest booked price away ⌝ }
 {

@@ -10,10 +10,9 @@ use lib.Seq.{drop-cons}
 use borrow.Author.Tests.{not-false}
 use Rattle.rules.specs.Lists.{all}
 use Rattle.rules.specs.Market.{isMissing, atOrPast}
-use Rattle.rules.specs.Crossing.{Crossing, isBought, isPrice, isSize, leads, inSequence, isTooLong, isBadCrossing}
+use Rattle.rules.specs.Crossing.{Crossing, isBought, isPrice, isSize, leads, inSequence, listHolds, areBadLengths, isBadCrossing}
 use Rattle.rules.proofs.Tests.{not-eq}
 use Rattle.rules.proofs.Executing.{lengths-fit}
-use Rattle.resting.specs.Lists.{listHolds}
 
 -- ---- a price and the next
 
@@ -62,15 +61,15 @@ module _ (bought : Bool) where
 -- ---- what gets 36
 
 module _ (room : ℕ) (c : Crossing) where
-  pub too-long : {b : Bool} → b ≡ isTooLong room (c .prices) (c .sizes) → b ≡ true → true ≡ isBadCrossing room c
+  pub bad-lengths : {b : Bool} → b ≡ areBadLengths room (c .prices) (c .sizes) → b ≡ true → true ≡ isBadCrossing room c
   unfolding isBadCrossing
-  too-long e h = sym (ap (λ (b : Bool). b || (not (listHolds (isBought c) (c .prices) (c .sizes)) || (not (isSize (c .size)) || not (isMissing (c .away) || isPrice (c .away .0))))) (sym e ∙ h))
+  bad-lengths e h = sym (ap (λ (b : Bool). b || (not (listHolds (isBought c) (c .prices) (c .sizes)) || (not (isSize (c .size)) || not (isMissing (c .away) || isPrice (c .away .0))))) (sym e ∙ h))
 
-  -- a list that is not too long has as many sizes as prices
-  pub paired : {b : Bool} → b ≡ isTooLong room (c .prices) (c .sizes) → b ≡ false → length (c .sizes) ≡ length (c .prices)
+  -- lengths that fit: as many sizes as prices
+  pub paired : {b : Bool} → b ≡ areBadLengths room (c .prices) (c .sizes) → b ≡ false → length (c .sizes) ≡ length (c .prices)
   paired e h = lengths-fit room (c .prices) (c .sizes) (sym e ∙ h) .0
 
-  -- the rest of what is asked, of a list that is not too long
-  pub by-parts : {b l r : Bool} → b ≡ isTooLong room (c .prices) (c .sizes) → b ≡ false → l ≡ listHolds (isBought c) (c .prices) (c .sizes) → r ≡ not l || (not (isSize (c .size)) || not (isMissing (c .away) || isPrice (c .away .0))) → r ≡ isBadCrossing room c
+  -- the rest of what is asked, of a list whose lengths fit
+  pub by-parts : {b l r : Bool} → b ≡ areBadLengths room (c .prices) (c .sizes) → b ≡ false → l ≡ listHolds (isBought c) (c .prices) (c .sizes) → r ≡ not l || (not (isSize (c .size)) || not (isMissing (c .away) || isPrice (c .away .0))) → r ≡ isBadCrossing room c
   unfolding isBadCrossing
   by-parts long h list e = cc (long, h, list, e)

@@ -10,8 +10,7 @@ ghost use mathlib.Core.Bool.{not};
 ghost use Prim.Native.Nat.{_+_, _<_};
 ghost use lib.ListN.{length, drop, getD};
 ghost use Rattle.rules.specs.Order.{isYes};
-ghost use Rattle.rules.specs.Crossing.{leads, isTooLong, isBadCrossing};
-ghost use Rattle.resting.specs.Lists.{listHolds};
+ghost use Rattle.rules.specs.Crossing.{leads, listHolds, areBadLengths, isBadCrossing};
 
 // Which side of the quote crosses: the bid where no sell is named.
 pub fn is_bought(sell: u64) -> bool
@@ -21,8 +20,8 @@ pub fn is_bought(sell: u64) -> bool
 }
 
 // A fill is lent for each of at most 64, and each has a price and a size.
-fn is_too_long(room: usize, prices: &[u64], sizes: &[u64]) -> bool
-    ensures { λ r. ⌜ r ≡ isTooLong room (now (prices .entry)) (now (sizes .entry)) ⌝ }
+fn are_bad_lengths(room: usize, prices: &[u64], sizes: &[u64]) -> bool
+    ensures { λ r. ⌜ r ≡ areBadLengths room (now (prices .entry)) (now (sizes .entry)) ⌝ }
 {
     let n = prices.len();
     either(negated(n == sizes.len()), either(64 < n, room < n))
@@ -70,7 +69,7 @@ pub fn is_bad_crossing(
 ) -> bool
     ensures { λ r. ⌜ r ≡ isBadCrossing room (record { sell = sell; size = size; prices = now (prices .entry); sizes = now (sizes .entry); away = away }) ⌝ }
 {
-    if is_too_long(room, prices, sizes) {
+    if are_bad_lengths(room, prices, sizes) {
         return true;
     }
     let list = list_holds(is_bought(sell), prices, sizes);

@@ -8,9 +8,9 @@ use Rattle.rules.specs.Checks.{putTest, callTest}
 use Rattle.rules.specs.Market.{isUnusable, tickAt, settingsOf, marketOf, settingsHold, marketHolds}
 use Rattle.rules.specs.Numbers.{firstOf}
 use Rattle.rules.specs.Quote.{comparison, setDistance, isInverted, quoteInversion, isBadQuote}
-use Rattle.rules.specs.Crossing.{inSequence, isTooLong, isBadCrossing, mayFill, fillsOf, isBooked, executed, crossingNumber, checkCrossing}
+use Rattle.rules.specs.Crossing.{inSequence, areBadLengths, isBadCrossing, mayFill, fillsOf, isBooked, execution, crossingNumber, checkCrossing}
 use Rattle.rules.specs.Crossings.{Crossings}
 
 pub crossings : Crossings
-unfolding all every total value numeral areDigits distance areSpaces isRootTail isRoot leapDay daysIn dayExists inLimits symbolOf partsOf isSymbol putTest callTest isUnusable tickAt settingsOf marketOf settingsHold marketHolds firstOf comparison setDistance isInverted quoteInversion isBadQuote inSequence isTooLong isBadCrossing mayFill fillsOf isBooked executed crossingNumber checkCrossing
+unfolding all every total value numeral areDigits distance areSpaces isRootTail isRoot leapDay daysIn dayExists inLimits symbolOf partsOf isSymbol putTest callTest isUnusable tickAt settingsOf marketOf settingsHold marketHolds firstOf comparison setDistance isInverted quoteInversion isBadQuote inSequence areBadLengths isBadCrossing mayFill fillsOf isBooked execution crossingNumber checkCrossing
 crossings = record { examples = refl; bounds = refl; missing = refl; sized = refl; limits = refl; sequence = refl; lengths = refl; numbers = refl; none = refl }

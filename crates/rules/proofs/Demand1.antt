@@ -26,7 +26,7 @@ use Rattle.rules.specs.Kinds.{isRefused, isRejected}
 use Rattle.rules.specs.Numbers.{firstOf, refusals, refusal, rejections, rejection, judged, refused, outcome, checkLegs, checkOrder, areWhole, checkSlices}
 use Rattle.rules.specs.Symbol.{partsOf}
 use Rattle.rules.specs.Quote.{quoteRefusals, quoteRefusal, quoteRejections, quoteRejection, answeredQuote, quoteOutcome, checkQuote}
-use Rattle.rules.specs.Crossing.{Crossing, isBought, crossingPrice, isBadCrossing, executed, turned, crossingTests, crossingNumber, checkCrossing}
+use Rattle.rules.specs.Crossing.{Crossing, isBought, crossingPrice, isBadCrossing, execution, unfilled, crossingTests, crossingNumber, checkCrossing}
 use Rattle.rules.specs.Fix.{messageRefusals, messageRefusal, SaidOrder, orderIn, bodyOf, checkSaid, checkFix}
 use Rattle.rules.specs.Tally.{isBadTally, tallied, Call, order, message, ownAnswer, checkTallied}
 use Rattle.rules.specs.Session.{isWholeSession, isRejectionLimit, turnings, turnedAway, changedBy, checkInSession, releaseLogin, startSession}
@@ -202,16 +202,13 @@ module _ (st : Settings) (m : Market) (symbol : List ℕ) (bid offer : Mills) wh
   crossing-number bad = first-passes (isOf crossingNumbers) (crossingTests st m symbol bid offer bad) refl refl
 
   crossing-answers : (resting : ℕ) (c : Crossing) (room : ℕ) → CrossingAnswers resting room (checkCrossing st m symbol bid offer resting c room)
-  unfolding checkCrossing executed
+  unfolding checkCrossing execution
   crossing-answers resting c room = go (crossingNumber st m symbol bid offer (isBadCrossing room c)) (crossing-number _) (eqb (crossingNumber st m symbol bid offer (isBadCrossing room c)) 0)
     where
-      bought : Bool
-      bought = isBought c
-
       no-rejection : (n : ℕ) → isRefused n ≡ true → isRejected n ≡ false
       no-rejection n h = or-neither (eqb n 0) (isRejected n) (not-eq _ h) .1
 
-      go : (n : ℕ) → isOf crossingNumbers n ≡ true → (b : Bool) → CrossingAnswers resting room (cond b (executed room bought (crossingPrice bought bid offer) c) (turned room n (cond (isYes resting && isRejected n) 1 0)))
+      go : (n : ℕ) → isOf crossingNumbers n ≡ true → (b : Bool) → CrossingAnswers resting room (cond b (execution room (crossingPrice (isBought c) bid offer) c) (unfilled room n (cond (isYes resting && isRejected n) 1 0)))
       go n h true = record { number = List·Memᴰ·head refl; refusal = λ e. refl; unexecuted = λ e. absurd (true≢false e); flag = sym (no-flag (isYes resting)) }
       go n h false =
           record {

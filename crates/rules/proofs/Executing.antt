@@ -17,14 +17,14 @@ use Rattle.rules.specs.Order.{isYes, seriesOf}
 use Rattle.rules.specs.Kinds.{isRefused, isRejected}
 use Rattle.rules.specs.Numbers.{firstOf}
 use Rattle.rules.specs.Quote.{quoteRefusals, quoteRefusal, quoteRejections, quoteRejection, answeredQuote, quoteOutcome, checkQuote}
-use Rattle.rules.specs.Crossing.{Crossing, Crossed, isBought, crossingPrice, isTooLong, isBadCrossing, fillOf, fillsOf, executed, turned, crossingNumber, checkCrossing}
+use Rattle.rules.specs.Crossing.{Crossing, Crossed, isBought, crossingPrice, areBadLengths, isBadCrossing, fillOf, fillsOf, execution, unfilled, crossingNumber, checkCrossing}
 use Rattle.rules.proofs.Tests.{or-neither, no-flag, not-eq}
 use Rattle.rules.proofs.Numbering.{first-behind, first-passes}
 use Rattle.rules.proofs.Demand1.{quote-check}
 
 -- a list that is not too long
-pub lengths-fit : (room : ℕ) (ps ns : List ℕ) → isTooLong room ps ns ≡ false → (length ns ≡ length ps) × (length ps ≤ 64) × (length ps ≤ room)
-unfolding isTooLong
+pub lengths-fit : (room : ℕ) (ps ns : List ℕ) → areBadLengths room ps ns ≡ false → (length ns ≡ length ps) × (length ps ≤ 64) × (length ps ≤ room)
+unfolding areBadLengths
 lengths-fit room ps ns h =
     let a = or-neither (not (eqb (length ps) (length ns))) _ h in
     let b = or-neither (ltb 64 (length ps)) (ltb room (length ps)) (a .1) in
@@ -33,7 +33,7 @@ lengths-fit room ps ns h =
 -- and one that gets no 36
 pub good-lengths : (room : ℕ) (c : Crossing) → isBadCrossing room c ≡ false → (length (c .sizes) ≡ length (c .prices)) × (length (c .prices) ≤ 64) × (length (c .prices) ≤ room)
 unfolding isBadCrossing
-good-lengths room c h = lengths-fit room (c .prices) (c .sizes) (or-neither (isTooLong room (c .prices) (c .sizes)) _ h .0)
+good-lengths room c h = lengths-fit room (c .prices) (c .sizes) (or-neither (areBadLengths room (c .prices) (c .sizes)) _ h .0)
 
 -- no fill exceeds what is left of the size, or its offer's
 pub fill-small : (b : Bool) (size n : ℕ) → (cond b (min size n) 0 ≤ size) × (cond b (min size n) 0 ≤ n)
@@ -97,25 +97,25 @@ module _ (st : Settings) (m : Market) (symbol : List ℕ) (bid offer : Mills) (r
     by-number : (refused bad : Bool) → isRefused (q .number) ≡ refused → isBadCrossing room c ≡ bad → number ≡ cond refused (q .number) (cond bad 36 (q .number))
     by-number refused bad e f = number-by-quote (isBadCrossing room c) ∙ ap₂ (λ (b d : Bool). cond b (q .number) (cond d 36 (q .number))) e f
 
-    gets-turned : (n : ℕ) → number ≡ n → (n ≡ 0 → ⊥) → given ≡ turned room n (cond (isYes resting && isRejected n) 1 0)
+    gets-unfilled : (n : ℕ) → number ≡ n → (n ≡ 0 → ⊥) → given ≡ unfilled room n (cond (isYes resting && isRejected n) 1 0)
     unfolding checkCrossing
-    gets-turned n h z = rw h (ap (λ (b : Bool). cond b (executed room (isBought c) (crossingPrice (isBought c) bid offer) c) (turned room n (cond (isYes resting && isRejected n) 1 0))) (ne-eqb n 0 z))
+    gets-unfilled n h z = rw h (ap (λ (b : Bool). cond b (execution room (crossingPrice (isBought c) bid offer) c) (unfilled room n (cond (isYes resting && isRejected n) 1 0))) (ne-eqb n 0 z))
 
     -- "that check's answer, all else zero"
-    by-quote : number ≡ q .number → (q .number ≡ 0 → ⊥) → given ≡ turned room (q .number) (q .cancel)
-    by-quote e z = gets-turned _ e z ∙ ap (turned room (q .number)) (sym (quote-check st m symbol bid offer resting .flag))
+    by-quote : number ≡ q .number → (q .number ≡ 0 → ⊥) → given ≡ unfilled room (q .number) (q .cancel)
+    by-quote e z = gets-unfilled _ e z ∙ ap (unfilled room (q .number)) (sym (quote-check st m symbol bid offer resting .flag))
 
-    pub gets-refused : isRefused (q .number) ≡ true → given ≡ turned room (q .number) (q .cancel)
+    pub gets-refused : isRefused (q .number) ≡ true → given ≡ unfilled room (q .number) (q .cancel)
     gets-refused h = by-quote (by-number true (isBadCrossing room c) h refl) (λ e. true≢false (sym h ∙ ap isRefused e))
 
-    pub gets-36 : isRefused (q .number) ≡ false → isBadCrossing room c ≡ true → given ≡ turned room 36 0
-    gets-36 h b = gets-turned 36 (by-number false true h b) (λ e. omega (arith, e)) ∙ ap (turned room 36) (no-flag (isYes resting))
+    pub gets-36 : isRefused (q .number) ≡ false → isBadCrossing room c ≡ true → given ≡ unfilled room 36 0
+    gets-36 h b = gets-unfilled 36 (by-number false true h b) (λ e. omega (arith, e)) ∙ ap (unfilled room 36) (no-flag (isYes resting))
 
     module _ (h : isRefused (q .number) ≡ false) (b : isBadCrossing room c ≡ false) where
-      pub gets-rejected : (q .number ≡ 0 → ⊥) → given ≡ turned room (q .number) (q .cancel)
+      pub gets-rejected : (q .number ≡ 0 → ⊥) → given ≡ unfilled room (q .number) (q .cancel)
       gets-rejected z = by-quote (by-number false false h b) z
 
-      pub gets-executed : q .number ≡ 0 → given ≡ executed room (isBought c) (crossingPrice (isBought c) bid offer) c
+      pub gets-executed : q .number ≡ 0 → given ≡ execution room (crossingPrice (isBought c) bid offer) c
       unfolding checkCrossing
       gets-executed z =
-          ap (λ (b : Bool). cond b (executed room (isBought c) (crossingPrice (isBought c) bid offer) c) (turned room number (cond (isYes resting && isRejected number) 1 0))) (eq-eqb number 0 (by-number false false h b ∙ z))
+          ap (λ (b : Bool). cond b (execution room (crossingPrice (isBought c) bid offer) c) (unfilled room number (cond (isYes resting && isRejected number) 1 0))) (eq-eqb number 0 (by-number false false h b ∙ z))

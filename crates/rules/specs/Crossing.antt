@@ -25,7 +25,7 @@ pub record Crossing : Type 0 where
   pub sizes : List ℕ
   pub away : Mills
 
--- `bought` is true for the bid below, as in the quote check: "Sell quotes mirror this."
+-- Below, `bought` is true for the bid, as in the quote check: "Sell quotes mirror this."
 abbrev pub isBought : Crossing → Bool
 isBought c = not (isYes (c .sell))
 
@@ -41,7 +41,7 @@ isPrice p = within 1 1000000000 p
 abbrev pub isSize : ℕ → Bool
 isSize n = within 1 1000000 n
 
--- "by strictly rising price", of a sell falling: the next price is past this one, and not at it
+-- "by strictly rising price", falling for a sell: the next price is past this one, and not at it
 abbrev pub leads : Bool → ℕ → List ℕ → Bool
 leads bought p [] = true
 leads bought p (q ∷ ps) = not (atOrPast bought p q)
@@ -50,16 +50,19 @@ unfoldable pub inSequence : Bool → List ℕ → Bool
 inSequence bought [] = true
 inSequence bought (p ∷ ps) = leads bought p ps && inSequence bought ps
 
--- "up to 64 resting offers"; as many prices as sizes, and "one" fill "for each offer": there is room for `room`
-unfoldable pub isTooLong : ℕ → List ℕ → List ℕ → Bool
-isTooLong room prices sizes = not (eqb (length prices) (length sizes)) || (ltb 64 (length prices) || ltb room (length prices))
+-- the list but for its length
+abbrev pub listHolds : Bool → List ℕ → List ℕ → Bool
+listHolds bought prices sizes = all isPrice prices && (all isSize sizes && inSequence bought prices)
 
--- "36 for a list too long or out of sequence, or any of these prices or sizes outside its limits"; "away 0 if missing"
+-- "up to 64 resting offers", each with its price and its size; `room` fills are lent, "one for each offer"
+unfoldable pub areBadLengths : ℕ → List ℕ → List ℕ → Bool
+areBadLengths room prices sizes = not (eqb (length prices) (length sizes)) || (ltb 64 (length prices) || ltb room (length prices))
+
+-- "36 for a list too long or out of sequence, or any of these prices or sizes outside its limits"; "away 0 if missing". The price of the quote itself has passed 11.
 unfoldable pub isBadCrossing : ℕ → Crossing → Bool
 isBadCrossing room c =
-    isTooLong room (c .prices) (c .sizes)
-    || (not (all isPrice (c .prices) && (all isSize (c .sizes) && inSequence (isBought c) (c .prices)))
-    || (not (isSize (c .size)) || not (isMissing (c .away) || isPrice (c .away .0))))
+    areBadLengths room (c .prices) (c .sizes)
+    || (not (listHolds (isBought c) (c .prices) (c .sizes)) || (not (isSize (c .size)) || not (isMissing (c .away) || isPrice (c .away .0))))
 
 -- "at prices not above the bid or the away offer"; "A missing away offer sets no bound". `price` is the crossing side's.
 unfoldable pub mayFill : Bool → Mills → Mills → ℕ → Bool
@@ -75,8 +78,8 @@ fillsOf may size [] sizes = []
 fillsOf may size (p ∷ prices) [] = []
 fillsOf may size (p ∷ prices) (n ∷ sizes) = fillOf may size p n ∷ fillsOf may (size - fillOf may size p n) prices sizes
 
-abbrev pub crossingFills : Bool → Mills → Crossing → List ℕ
-crossingFills bought price c = fillsOf (mayFill bought price (c .away)) (c .size) (c .prices) (c .sizes)
+abbrev pub crossingFills : Mills → Crossing → List ℕ
+crossingFills price c = fillsOf (mayFill (isBought c) price (c .away)) (c .size) (c .prices) (c .sizes)
 
 -- "The remainder is booked if the bid is below the away offer, else cancelled. A missing away offer [..] books."
 unfoldable pub isBooked : Bool → Mills → Mills → Bool
@@ -87,20 +90,20 @@ pub record Crossed : Type 0 where
   pub answer : CrossingAnswer
   pub fills : List ℕ
 
--- where it is accepted: the fills, 0 where nothing is filled, and the rest of the size booked or cancelled
-unfoldable pub executed : ℕ → Bool → Mills → Crossing → Crossed
-executed room bought price c =
-    let fs = crossingFills bought price c in
-    let rest = c .size - total fs in
-    let booked = isBooked bought price (c .away) in
-    record { answer = record { number = 0; cancel = 0; executed = total fs; booked = cond booked rest 0; cancelled = cond booked 0 rest }; fills = fs ++ replicate (room - length fs) 0 }
+-- where it is accepted: the fills, 0 where nothing is filled, and the remainder of the size booked or cancelled
+unfoldable pub execution : ℕ → Mills → Crossing → Crossed
+execution room price c =
+    let fs = crossingFills price c in
+    let remainder = c .size - total fs in
+    let booked = isBooked (isBought c) price (c .away) in
+    record { answer = record { number = 0; cancel = 0; executed = total fs; booked = cond booked remainder 0; cancelled = cond booked 0 remainder }; fills = fs ++ replicate (room - length fs) 0 }
 
 -- "A quote that the quote check refuses or rejects gives that check's answer, all else zero."
 abbrev pub unexecuted : ℕ → ℕ → CrossingAnswer
 unexecuted n cancel = record { number = n; cancel = cancel; executed = 0; booked = 0; cancelled = 0 }
 
-abbrev pub turned : ℕ → ℕ → ℕ → Crossed
-turned room n cancel = record { answer = unexecuted n cancel; fills = replicate room 0 }
+abbrev pub unfilled : ℕ → ℕ → ℕ → Crossed
+unfilled room n cancel = record { answer = unexecuted n cancel; fills = replicate room 0 }
 
 -- the quote check's numbers, and 36 "after 11 and before 20"
 abbrev pub crossingTests : Settings → Market → List ℕ → Mills → Mills → Bool → List (Bool × ℕ)
@@ -110,9 +113,8 @@ crossingTests st m symbol bid offer bad =
 unfoldable pub crossingNumber : Settings → Market → List ℕ → Mills → Mills → Bool → ℕ
 crossingNumber st m symbol bid offer bad = firstOf (crossingTests st m symbol bid offer bad)
 
--- the check on a crossing quote, with `room` fills lent; the cancel flag as in the quote check
+-- the check on a crossing quote, with `room` fills lent. The cancel flag goes by the number, and so is the quote check's own wherever that check's number is given.
 unfoldable pub checkCrossing : Settings → Market → List ℕ → Mills → Mills → ℕ → Crossing → ℕ → Crossed
 checkCrossing st m symbol bid offer resting c room =
     let n = crossingNumber st m symbol bid offer (isBadCrossing room c) in
-    let bought = isBought c in
-    cond (eqb n 0) (executed room bought (crossingPrice bought bid offer) c) (turned room n (cond (isYes resting && isRejected n) 1 0))
+    cond (eqb n 0) (execution room (crossingPrice (isBought c) bid offer) c) (unfilled room n (cond (isYes resting && isRejected n) 1 0))

@@ -6,7 +6,7 @@ use lib.ListN.{drop, replicate}
 use Rattle.rules.specs.declared.Mills.{Mills}
 use Rattle.rules.specs.declared.Market.{Market}
 use Rattle.rules.specs.Edges.{Hold, usual, market, underlyingOf, badSettings, badMarket, call, put}
-use Rattle.rules.specs.Crossing.{Crossing, inSequence, isTooLong, isBadCrossing, Crossed, turned, checkCrossing}
+use Rattle.rules.specs.Crossing.{Crossing, inSequence, areBadLengths, isBadCrossing, Crossed, checkCrossing}
 
 abbrev mills : ℕ → Mills
 mills n = record { 0 = n }
@@ -45,6 +45,9 @@ sells offer size away = checkCrossing usual bidFor call (mills 1100) (mills offe
 
 abbrev crossed : ℕ → ℕ → ℕ → List ℕ → Crossed
 crossed executed booked cancelled fills = record { answer = record { number = 0; cancel = 0; executed = executed; booked = booked; cancelled = cancelled }; fills = fills ++ (0 ∷ []) }
+
+abbrev nothing : ℕ → ℕ → ℕ → Crossed
+nothing room n cancel = record { answer = record { number = n; cancel = cancel; executed = 0; booked = 0; cancelled = 0 }; fills = replicate room 0 }
 
 -- what one side gives, and what the other gives of the mirrored prices
 abbrev bothSides : ℕ → ℕ → ℕ → Crossed → List (Crossed × Crossed)
@@ -125,15 +128,15 @@ pub record Crossings : Type 0 where
       ∷ [])
   -- 64 and 65 of them; as many fills as offers, and one fewer; a price or a size more
   pub lengths : Hold (
-      (isTooLong 64 (from 64 1) (from 64 1), false)
-      ∷ (isTooLong 65 (from 65 1) (from 65 1), true)
-      ∷ (isTooLong 64 (from 63 1) (from 63 1), false)
-      ∷ (isTooLong 63 (from 64 1) (from 64 1), true)
-      ∷ (isTooLong 64 (from 3 1) (from 2 1), true)
-      ∷ (isTooLong 64 (from 2 1) (from 3 1), true)
-      ∷ (isTooLong 64 [] (from 1 1), true)
-      ∷ (isTooLong 0 [] [], false)
-      ∷ (isTooLong 0 (1 ∷ []) (1 ∷ []), true)
+      (areBadLengths 64 (from 64 1) (from 64 1), false)
+      ∷ (areBadLengths 65 (from 65 1) (from 65 1), true)
+      ∷ (areBadLengths 64 (from 63 1) (from 63 1), false)
+      ∷ (areBadLengths 63 (from 64 1) (from 64 1), true)
+      ∷ (areBadLengths 64 (from 3 1) (from 2 1), true)
+      ∷ (areBadLengths 64 (from 2 1) (from 3 1), true)
+      ∷ (areBadLengths 64 [] (from 1 1), true)
+      ∷ (areBadLengths 0 [] [], false)
+      ∷ (areBadLengths 0 (1 ∷ []) (1 ∷ []), true)
       ∷ (bad 64 0 1 (from 64 1) (from 64 1) 0, false)
       ∷ (bad 64 7 1 (reverse (from 64 1)) (from 64 1) 0, false)
       ∷ (bad 65 0 1 (from 65 1) (from 65 1) 0, true)
@@ -141,25 +144,26 @@ pub record Crossings : Type 0 where
   -- the quote check's refusals before 36, 36 before its rejections; what executes nothing leaves no fill, and a rejection keeps the flag
   pub numbers : Hold (
       (quoted 1 call 10 11, record { answer = record { number = 0; cancel = 0; executed = 5; booked = 0; cancelled = 0 }; fills = 5 ∷ 0 ∷ [] })
-      ∷ (quoted 1 put 20000 20001, turned 2 20 1)
-      ∷ (quoted 0 put 20000 20001, turned 2 20 0)
-      ∷ (quoted 1 call 10000 10001, turned 2 21 1)
-      ∷ (buys 1241 100 1230, turned 6 26 1)
-      ∷ (sells 1159 100 1170, turned 6 26 1)
-      ∷ (quoted 1 (drop 1 call) 10 11, turned 2 1 0)
-      ∷ (quoted 1 call 11 11, turned 2 11 0)
-      ∷ (unlisted 1 call 10 11, turned 2 36 0)
-      ∷ (unlisted 1 put 20000 20001, turned 2 36 0)
-      ∷ (unlisted 1 call 10000 10001, turned 2 36 0)
-      ∷ (buys 1241 0 1230, turned 6 36 0)
-      ∷ (unlisted 1 call 11 11, turned 2 11 0)
-      ∷ (unlisted 1 (drop 1 call) 10 11, turned 2 1 0)
-      ∷ (checkCrossing badSettings badMarket call (mills 0) (mills 0) 1 (crossing 0 0 [] [] 0) 1, turned 1 9 0)
-      ∷ (checkCrossing usual badMarket call (mills 0) (mills 0) 1 (crossing 0 0 [] [] 0) 1, turned 1 10 0)
+      ∷ (quoted 1 put 20000 20001, nothing 2 20 1)
+      ∷ (quoted 2 put 20000 20001, nothing 2 20 1)
+      ∷ (quoted 0 put 20000 20001, nothing 2 20 0)
+      ∷ (quoted 1 call 10000 10001, nothing 2 21 1)
+      ∷ (buys 1241 100 1230, nothing 6 26 1)
+      ∷ (sells 1159 100 1170, nothing 6 26 1)
+      ∷ (quoted 1 (drop 1 call) 10 11, nothing 2 1 0)
+      ∷ (quoted 1 call 11 11, nothing 2 11 0)
+      ∷ (unlisted 1 call 10 11, nothing 2 36 0)
+      ∷ (unlisted 1 put 20000 20001, nothing 2 36 0)
+      ∷ (unlisted 1 call 10000 10001, nothing 2 36 0)
+      ∷ (buys 1241 0 1230, nothing 6 36 0)
+      ∷ (unlisted 1 call 11 11, nothing 2 11 0)
+      ∷ (unlisted 1 (drop 1 call) 10 11, nothing 2 1 0)
+      ∷ (checkCrossing badSettings badMarket call (mills 0) (mills 0) 1 (crossing 0 0 [] [] 0) 1, nothing 1 9 0)
+      ∷ (checkCrossing usual badMarket call (mills 0) (mills 0) 1 (crossing 0 0 [] [] 0) 1, nothing 1 10 0)
       ∷ [])
   -- no list, and no fill lent
   pub none : Hold (
       (checkCrossing usual offered call (mills 1240) (mills 1300) 0 (crossing 0 7 [] [] 0) 2, record { answer = record { number = 0; cancel = 0; executed = 0; booked = 7; cancelled = 0 }; fills = 0 ∷ 0 ∷ [] })
       ∷ (checkCrossing usual offered call (mills 1240) (mills 1300) 0 (crossing 0 7 [] [] 1240) 0, record { answer = record { number = 0; cancel = 0; executed = 0; booked = 0; cancelled = 7 }; fills = [] })
-      ∷ (checkCrossing usual offered call (mills 1240) (mills 1300) 0 (crossing 0 7 (1 ∷ []) (1 ∷ []) 0) 0, turned 0 36 0)
+      ∷ (checkCrossing usual offered call (mills 1240) (mills 1300) 0 (crossing 0 7 (1 ∷ []) (1 ∷ []) 0) 0, nothing 0 36 0)
       ∷ [])

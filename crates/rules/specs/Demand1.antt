@@ -117,7 +117,7 @@ pub record QuoteAnswers (resting : ℕ) (r : QuoteAnswer) : Type 0 where
 abbrev pub QuoteCheck : Type 0
 QuoteCheck = (st : Settings) (m : Market) (symbol : List ℕ) (bid offer : Mills) (resting : ℕ) → QuoteAnswers resting (checkQuote st m symbol bid offer resting)
 
--- the check on a crossing quote (document 02, S-7), with `room` fills lent: a refusal leaves zeros alone, a rejection keeps the flag
+-- the check on a crossing quote (document 02, S-7), with `room` fills lent: a refusal gives zeros and nothing else, a rejection keeps the flag
 abbrev pub crossingNumbers : List ℕ
 crossingNumbers = 0 ∷ named (crossingTests anySettings anyMarket [] anyPrice anyPrice false)
 

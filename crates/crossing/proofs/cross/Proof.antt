@@ -28,7 +28,7 @@ returns-4 : tie.Need-returns-4
 returns-4 c =
     let a = c .before .before .before .before .before .before .before .before .before .before .before .before .before .before .before .before .before .args in
     let x = c .before .before .execute in
-    accepted (a .quote) (a .bid) (a .offer) (record { sell = a .sell; size = a .size; prices = a .prices .now; sizes = a .sizes .now; away = a .away }) _ (c .before .before .before .before .before .before .before .before .before .is-refused .ensures) (c .before .before .before .before .before .before .before .before .before .before .before .before .clear .ensures) (c .before .before .before .before .before .before .before .before .if1 .left) (c .before .before .before .before .before .before .before .before .before .before .before .before .clear .kept .0) (c .before .before .before .before .before .before .before .is-bad-crossing .ensures) (c .before .before .before .before .before .before .if2 .left) (c .before .before .before .before .if3 .left) (x .ensures .0) (x .ensures .1)
+    accepted (a .quote) (a .bid) (a .offer) (record { sell = a .sell; size = a .size; prices = a .prices .now; sizes = a .sizes .now; away = a .away }) _ (c .before .before .before .before .before .before .before .before .before .is-refused .ensures) (c .before .before .before .before .before .before .before .before .before .before .before .before .clear .ensures) (c .before .before .before .before .before .before .before .before .if1 .left) (c .before .before .before .before .before .before .before .before .before .before .before .before .clear .kept .0) (c .before .before .before .before .before .before .before .is-bad-crossing .ensures) (c .before .before .before .before .before .before .if2 .left) (c .before .before .before .before .if3 .left) (x .ensures)
 
 pub cross-spec : {M : Type 1} → statement M
 cross-spec =

@@ -1,6 +1,6 @@
 use borrow.Author.Needs.{needs}
 use Rattle.rules.specs.Crossing.{Crossing}
-use Rattle.crossing.proofs.Laws.{executed-answer, executed-fills}
+use Rattle.crossing.proofs.Laws.{executed}
 use Rattle.crossing.proofs.execute.Statement.{statement}
 use Rattle.crossing.proofs.execute.Tie as tie
 
@@ -12,10 +12,8 @@ returns c =
     let side = c .before .before .before .before .before .before .before .before .before .is-bought .ensures in
     let at = c .before .before .before .before .before .before .before .before .crossing-price .ensures in
     let kept = c .before .before .before .before .before .before .before .is-booked .ensures in
-    let reach = c .before .before .before .before .before .before .furthest .ensures in (
-      executed-answer (a .bid) (a .offer) (record { sell = a .sell; size = a .size; prices = a .prices .now; sizes = a .sizes .now; away = a .away }) side at kept reach _ (f .ensures .0) (c .before .pick .ensures) (c .pick2 .ensures),
-      executed-fills (a .bid) (a .offer) (record { sell = a .sell; size = a .size; prices = a .prices .now; sizes = a .sizes .now; away = a .away }) side at kept reach (s .pre .0) (s .pre .2) (f .ensures .1),
-    )
+    let reach = c .before .before .before .before .before .before .furthest .ensures in
+    executed (a .bid) (a .offer) (record { sell = a .sell; size = a .size; prices = a .prices .now; sizes = a .sizes .now; away = a .away }) side at kept reach (s .pre .0) (s .pre .2) (f .ensures .0) (f .ensures .1) (c .before .pick .ensures) (c .pick2 .ensures)
 
 pub execute-spec : {M : Type 1} → statement M
 execute-spec =

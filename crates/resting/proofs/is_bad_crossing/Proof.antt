@@ -1,28 +1,27 @@
 use borrow.Author.Needs.{needs}
 use mathlib.Core.Path.{_∙_, ap}
 use mathlib.Core.Bool.{Bool}
-use Rattle.rules.specs.Crossing.{Crossing}
-use Rattle.resting.specs.Lists.{listHolds}
-use Rattle.resting.proofs.Laws.{too-long, paired, by-parts}
+use Rattle.rules.specs.Crossing.{Crossing, listHolds}
+use Rattle.resting.proofs.Laws.{bad-lengths, paired, by-parts}
 use Rattle.resting.proofs.is_bad_crossing.Statement.{statement}
 use Rattle.resting.proofs.is_bad_crossing.Tie as tie
 
 returns : tie.Need-returns
 returns c =
     let a = c .before .before .before .before .args in
-    too-long (a .room) (record { sell = a .sell; size = a .size; prices = a .prices .now; sizes = a .sizes .now; away = a .away }) (c .before .is-too-long .ensures) (c .if1 .taken)
+    bad-lengths (a .room) (record { sell = a .sell; size = a .size; prices = a .prices .now; sizes = a .sizes .now; away = a .away }) (c .before .are-bad-lengths .ensures) (c .if1 .taken)
 
 list-holds-requires : tie.Need-list-holds-requires
 list-holds-requires c κs =
     let a = c .before .before .before .before .before .args in
-    paired (a .room) (record { sell = a .sell; size = a .size; prices = a .prices .now; sizes = a .sizes .now; away = a .away }) (c .before .before .is-too-long .ensures) (c .before .if1 .left)
+    paired (a .room) (record { sell = a .sell; size = a .size; prices = a .prices .now; sizes = a .sizes .now; away = a .away }) (c .before .before .are-bad-lengths .ensures) (c .before .if1 .left)
 
 returns-2 : tie.Need-returns-2
 returns-2 c =
     let a = c .before .before .before .before .before .before .before .before .before .before .before .before .before .before .before .args in
     by-parts (a .room)
     (record { sell = a .sell; size = a .size; prices = a .prices .now; sizes = a .sizes .now; away = a .away })
-    (c .before .before .before .before .before .before .before .before .before .before .before .before .is-too-long .ensures)
+    (c .before .before .before .before .before .before .before .before .before .before .before .before .are-bad-lengths .ensures)
     (c .before .before .before .before .before .before .before .before .before .before .before .if1 .left)
     (c .before .before .before .before .before .before .before .before .before .list-holds .ensures ∙ ap (λ (b : Bool). listHolds b (a .prices .now) (a .sizes .now)) (c .before .before .before .before .before .before .before .before .before .before .is-bought .ensures))
     (cc (c .either3 .ensures, c .before .either2 .ensures, c .before .before .negated3 .ensures, c .before .before .before .negated2 .ensures, c .before .before .before .before .within2 .ensures, c .before .before .before .before .before .negated .ensures, c .before .before .before .before .before .before .either .ensures, c .before .before .before .before .before .before .before .within .ensures))

@@ -4,7 +4,7 @@ use native.Mathlib.Omega.{arith}
 use mathlib.Core.Path.{_≡_, refl}
 use Prim.Native.Nat.{_≤_, _-_}
 use lib.ListN.{length, drop}
-use Rattle.resting.specs.Lists.{listHolds}
+use Rattle.rules.specs.Crossing.{listHolds}
 use Rattle.resting.proofs.Laws.{holds-turn, holds-bad, holds-end}
 use Rattle.resting.proofs.list_holds.Statement.{statement}
 use Rattle.resting.proofs.list_holds.Tie as tie
