@@ -32,7 +32,8 @@ pub fn is_booked(bought: bool, price: Mills, away: Mills) -> bool
     either(away.0 == 0, negated(at_or_past(bought, price, away)))
 }
 
-// The furthest price that the quote may fill: its own where the remainder is booked, else the away price, which is nearer.
+// The furthest price that the quote may fill: its own where the remainder is booked, else the away price, which is then
+// the nearer one.
 pub fn furthest(booked: bool, price: Mills, away: Mills) -> Mills
     ensures { λ r. ⌜ r ≡ furthest booked price away ⌝ }
 {
