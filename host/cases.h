@@ -1,7 +1,7 @@
 /*
- * The cases of the files in cases/: each order, pair, message and quote, with the settings and
- * market that it is checked against, and the answer that its line has after "#=". Run at the top of
- * the repository.
+ * The cases of the files in cases/: each order, pair, message, quote and crossing quote, with the
+ * settings and market that it is checked against, and the answer that its line has after "#=". Run
+ * at the top of the repository.
  */
 #ifndef CASES_H
 #define CASES_H
@@ -43,7 +43,7 @@ static inline struct made_order order_of(const struct opc_order *order, const st
     return m;
 }
 
-/* Holds an order, a pair, a message or a quote to the answer, in the line's words. */
+/* Holds what a line of the kind asks for to the answer, in the line's words. */
 typedef void hold_case(const struct request *request, const char *answer);
 
 /* What stands after "#=" and a blank. */
@@ -83,7 +83,7 @@ static inline void hold_file(const char *name, enum request_kind kind, hold_case
     case_now.file = NULL;
 }
 
-/* Holds every order, every pair, every message or every quote of every file. */
+/* Holds every line of the kind, of every file. */
 static inline void hold_cases(enum request_kind kind, hold_case *hold) {
     glob_t files;
     expect(glob("cases/*.desk", 0, NULL, &files) == 0, "there are no cases");

@@ -1,9 +1,11 @@
 /*
- * Holds the check of crossing quotes to a plain computation from document 02, S-7 (in
- * expect_crossing.h), and to the papers' examples: number, flag, every lent number and every fill.
- * Exit status 1 and a message on the first failure, one line with the number of checks otherwise.
+ * Holds the check of crossing quotes to the answers of the files in cases/, to a plain computation
+ * from document 02, S-7 (in expect_crossing.h), and to the papers' examples: number, flag, every
+ * lent number and every fill. Exit status 1 and a message on the first failure, one line with the
+ * number of checks otherwise.
  */
 #define _DEFAULT_SOURCE /* for lent_bytes.h */
+#include "cases.h"
 #include "expect.h"
 #include "expect_crossing.h"
 #include "made_crossing.h"
@@ -13,7 +15,10 @@
 
 static const char *const test_name = "test_crossing";
 
-static void print_tried(void) { print_crossing(); }
+static void print_tried(void) {
+    print_case();
+    print_crossing();
+}
 
 /* Every price of a quote turned about this is one that a quote may have. */
 #define TURNED (MOST_QUOTED + 1)
@@ -46,6 +51,65 @@ static struct made_crossing bid_against(size_t len) {
         add_resting(&c, 2, 5000 - len + 2 * i);
     }
     return c;
+}
+
+/* ---- the cases ---- */
+
+static struct made_crossing crossing_of(const struct request *r) {
+    const struct opc_crossing_quote *asked = &r->crossing;
+    const struct opc_quote *quote = &asked->quote;
+    struct made_crossing c = crossing_bid(quote->bid, asked->size);
+    c.quote = quote_for((const char *)quote->symbol, quote->bid, quote->offer);
+    c.quote.resting = quote->resting;
+    c.quote.settings = r->terms.settings;
+    c.quote.market = r->terms.market;
+    c.sell = asked->sell;
+    c.away = asked->away;
+    expect(asked->prices_len <= MADE_RESTING, "a case of more resting than can be made");
+    for (size_t i = 0; i < asked->prices_len; i++) {
+        add_resting(&c, asked->sizes[i], asked->prices[i]);
+    }
+    return c;
+}
+
+/* The answer in a case's words: of 0 with a fill for each in the list. */
+static void write_words(const struct opc_crossing_answer *a, size_t len, char text[LINE_LENGTH]) {
+    size_t at = (size_t)snprintf(text, LINE_LENGTH, "%" PRIu64, a->number);
+    if (a->number == OPC_ACCEPTED) {
+        for (size_t i = 0; i < len; i++) {
+            at += (size_t)snprintf(text + at, LINE_LENGTH - at, " %" PRIu64, a->fills[i]);
+        }
+        at += (size_t)snprintf(text + at, LINE_LENGTH - at,
+                               ", %" PRIu64 " executed, %" PRIu64 " booked, %" PRIu64 " cancelled",
+                               a->executed, a->booked, a->cancelled);
+    }
+    snprintf(text + at, LINE_LENGTH - at, "%s", a->cancel == 0 ? "" : " cancel");
+}
+
+static void expect_case(const struct made_crossing *c, size_t fills_len, const char *words) {
+    struct opc_crossing_answer a = answer_to(c, fills_len);
+    char text[LINE_LENGTH];
+    write_words(&a, c->prices_len, text);
+    expect(strcmp(text, words) == 0, "another answer than the case has");
+}
+
+static size_t crossings_held;
+
+/* As it is; with as many fills as the list has; with other values for each yes. */
+static void hold_crossing(const struct request *request, const char *words) {
+    struct made_crossing c = crossing_of(request);
+    expect_case(&c, OPC_MAX_RESTING, words);
+    expect_case(&c, c.prices_len, words);
+    change_yes(&c.sell);
+    change_yes(&c.quote.resting);
+    change_flags(&c.quote.settings, &c.quote.market);
+    expect_case(&c, OPC_MAX_RESTING, words);
+    crossings_held++;
+}
+
+static void test_cases(void) {
+    hold_cases(REQUEST_CROSSING, hold_crossing);
+    expect(crossings_held > 0, "no file of cases has a crossing quote");
 }
 
 /* ---- the papers' examples ---- */
@@ -499,6 +563,7 @@ static void test_random_mirrored(void) {
 }
 
 int main(void) {
+    test_cases();
     test_papers();
     test_rejected_example();
     test_lengths();

@@ -1,15 +1,16 @@
 //! The cases that every implementation is held to: the files `cases/*.desk`, lines of the desk's
-//! form (`host/desk --help`), each order, message, pair and quote with its expected answer after
-//! `#=`.
+//! form (`host/desk --help`), each order, message, pair, quote and crossing quote with its expected
+//! answer after `#=`.
 //!
-//! A line that cannot be read is an error with its place, and so is an order, a message, a pair or
-//! a quote without an answer: no case is passed over.
+//! A line that cannot be read is an error with its place, and so is an order, a message, a pair, a
+//! quote or a crossing quote without an answer: no case is passed over.
 
 use crate::{
     arrival::{Answer, Arrival, RawLeg},
     case::Case,
+    crossing::{Crossing, CrossingAnswer},
     message::{Message, END},
-    numbers::{self, kind, Kind, Of},
+    numbers::{self, kind, Kind, Of, ACCEPTED},
     pair::{Pair, PairAnswer},
     quote::{Quote, QuoteAnswer},
     slices::{market, setting, EXAMPLE_MARKET, EXAMPLE_SETTINGS},
@@ -31,6 +32,7 @@ pub struct Cases {
     pub messages: Vec<Expected<Message>>,
     pub pairs: Vec<Expected<Pair>>,
     pub quotes: Vec<Expected<Quote>>,
+    pub crossings: Vec<Expected<Crossing>>,
 }
 
 /// The cases of every file.
@@ -86,11 +88,9 @@ impl Cases {
                 case: line.quote(terms)?,
                 answer: line.answer(quote_answer)?,
             }),
+            b"cross" => self.crossings.push(line.crossing_case(place, terms)?),
             b"set" => line.set(terms)?,
-            b"reset" => {
-                [] = line.flags([])?;
-                *terms = Terms::of_examples();
-            }
+            b"reset" => line.reset(terms)?,
             b"" => (),
             other => return Err(format!("no line begins with '{}'", other.escape_ascii())),
         }
@@ -170,7 +170,7 @@ impl<'a> Rest<'a> {
         Ok(())
     }
 
-    fn answer<T>(&mut self, read: fn(&str) -> Option<T>) -> Result<T, String> {
+    fn answer<T>(&mut self, read: impl Fn(&str) -> Option<T>) -> Result<T, String> {
         let text = self.0.strip_prefix(b"#=").ok_or("the answer is missing")?;
         let answer = str::from_utf8(text).ok().and_then(|text| read(text.trim()));
         answer.ok_or_else(|| format!("no answer is '{}'", text.escape_ascii()))
@@ -191,6 +191,12 @@ impl<'a> Rest<'a> {
                 return Ok(());
             }
         }
+    }
+
+    fn reset(&mut self, terms: &mut Terms) -> Result<(), String> {
+        [] = self.flags([])?;
+        *terms = Terms::of_examples();
+        Ok(())
     }
 
     fn order(&mut self, terms: &Terms) -> Result<Arrival, String> {
@@ -298,6 +304,43 @@ impl<'a> Rest<'a> {
         })
     }
 
+    /// Side, size and away price, what rests, a stroke, and a quote.
+    fn crossing(&mut self, terms: &Terms) -> Result<Crossing, String> {
+        let sell = self.take("a side", |word| place(&SIDES, word))?;
+        let size = self.take("a size", whole)?;
+        let away = self.take("an away price", mills)?;
+        let offer_or_bid = |text: &str| {
+            let (price, size) = text.split_once(':')?;
+            Some((mills(price)?, whole(size)?))
+        };
+        let mut resting = Vec::new();
+        while self.peek() != b"/" {
+            resting.push(self.take("an offer or a bid", offer_or_bid)?);
+        }
+        self.field();
+        let quote = self.quote(terms)?;
+        Ok(Crossing {
+            sell,
+            away,
+            ..Crossing::new(quote, size, &resting)
+        })
+    }
+
+    /// A crossing quote, with an answer that has a fill for each in its list.
+    fn crossing_case(
+        &mut self,
+        place: String,
+        terms: &Terms,
+    ) -> Result<Expected<Crossing>, String> {
+        let case = self.crossing(terms)?;
+        let answer = self.answer(|text| crossing_answer(text, case.prices.len()))?;
+        Ok(Expected {
+            place,
+            case,
+            answer,
+        })
+    }
+
     fn leg(&mut self) -> Result<RawLeg, String> {
         let count = self.count("a count")?;
         Ok((self.series()?, count))
@@ -349,10 +392,11 @@ fn signed(text: &str, size: fn(&str) -> Option<u64>) -> Option<i64> {
     i64::try_from(sign * i128::from(size(digits)?)).ok()
 }
 
-/// The names of classes and of shapes, and whether an order passes, each at its number.
+/// The names of classes, of shapes and of sides, and whether an order passes, each at its number.
 const CLASSES: [&str; 3] = ["undetermined", "debit", "credit"];
 #[rustfmt::skip]
 const SHAPES: [&str; 5] = ["other", "vertical", "true butterfly", "skewed butterfly", "box"];
+const SIDES: [&str; 2] = ["buy", "sell"];
 const PASSES: [&str; 2] = ["stopped", "passes"];
 
 fn place(names: &[&str], name: &str) -> Option<u64> {
@@ -408,6 +452,32 @@ fn quote_answer(text: &str) -> Option<QuoteAnswer> {
         number: number_of(Of::Quote, number)?,
         cancel,
     })
+}
+
+/// 0 FILL .., SIZE executed, SIZE booked, SIZE cancelled; of any other number, 36 among them, as of
+/// a quote.
+fn crossing_answer(text: &str, fills: usize) -> Option<CrossingAnswer> {
+    let parts: Vec<&str> = text.split(", ").collect();
+    let [filled, executed, booked, cancelled] = parts[..] else {
+        let answer = match number_of(Of::Crossing, text) {
+            Some(number) => QuoteAnswer { number, cancel: 0 },
+            None => quote_answer(text)?,
+        };
+        let nothing = CrossingAnswer::nothing(answer, fills);
+        return Some(nothing).filter(|answer| answer.number != ACCEPTED);
+    };
+    let size = |text: &str, word| whole(text.strip_suffix(word)?);
+    let numbers: Option<Vec<u64>> = filled.split(' ').map(whole).collect();
+    let mut numbers = numbers?.into_iter();
+    let answer = CrossingAnswer {
+        number: numbers.next()?,
+        cancel: 0,
+        executed: size(executed, " executed")?,
+        booked: size(booked, " booked")?,
+        cancelled: size(cancelled, " cancelled")?,
+        fills: numbers.collect(),
+    };
+    Some(answer).filter(|answer| answer.number == ACCEPTED && answer.fills.len() == fills)
 }
 
 #[cfg(test)]
@@ -514,7 +584,58 @@ quote XYZ 270115 C 20 1 2 stop #= 0
 quote XYZ 270115 C 20 1 2 shares +100 #= 0
 quote XYZ 270115 C 20 1 2 #= 33
 quote XYZ 270115 C 20 1 2 #= 3
+quote XYZ 270115 C 20 1 2 #= 36
 quote XYZ 270115 C 20 1 2 #= 20 cancelled
+quote / XYZ 270115 C 20 1 2 #= 0
+cross
+cross buy 5 0 1:2 / XYZ 270115 C 20 1 2
+cross buy 5 0 1:2 / XYZ 270115 C 20 1 2 # 36
+cross buy 5 0 1:2 / XYZ 270115 C 20 1 2 #=
+cross buy 5 0 1:2 / XYZ 270115 C 20 1 2 #= 0
+cross buy 5 0 1:2 / XYZ 270115 C 20 1 2 #= 0 cancel
+cross buy 5 0 1:2 / XYZ 270115 C 20 1 2 #= 0 2
+cross buy 5 0 1:2 / XYZ 270115 C 20 1 2 #= 0 2, 2 executed
+cross buy 5 0 1:2 / XYZ 270115 C 20 1 2 #= 0 2, 2 executed, 3 booked
+cross buy 5 0 1:2 / XYZ 270115 C 20 1 2 #= 0 2, 3 booked, 2 executed, 0 cancelled
+cross buy 5 0 1:2 / XYZ 270115 C 20 1 2 #= 0 2, 2, 3, 0
+cross buy 5 0 1:2 / XYZ 270115 C 20 1 2 #= 0 2, 2 executed, 3 booked, 0 cancel
+cross buy 5 0 1:2 / XYZ 270115 C 20 1 2 #= 0 2, 2 executed, 3 booked, 0 cancelled cancel
+cross buy 5 0 1:2 / XYZ 270115 C 20 1 2 #= 0 2, 2 executed, 3 booked, 0 cancelled, 0
+cross buy 5 0 1:2 / XYZ 270115 C 20 1 2 #= 0, 2 executed, 3 booked, 0 cancelled
+cross buy 5 0 1:2 / XYZ 270115 C 20 1 2 #= 0 2 0, 2 executed, 3 booked, 0 cancelled
+cross buy 5 0 1:2 / XYZ 270115 C 20 1 2 #= 0 +2, 2 executed, 3 booked, 0 cancelled
+cross buy 5 0 1:2 / XYZ 270115 C 20 1 2 #= 2, 2 executed, 3 booked, 0 cancelled
+cross buy 5 0 1:2 / XYZ 270115 C 20 1 2 #= 20 0, 0 executed, 0 booked, 0 cancelled
+cross buy 5 0 1:2 / XYZ 270115 C 20 1 2 #= 36 cancel
+cross buy 5 0 1:2 / XYZ 270115 C 20 1 2 #= 36 0
+cross buy 5 0 1:2 / XYZ 270115 C 20 1 2 #= 20 cancelled
+cross buy 5 0 1:2 / XYZ 270115 C 20 1 2 #= 22
+cross buy 5 0 / XYZ 270115 C 20 1 2 #= 0 0 executed, 5 booked, 0 cancelled
+cross buy 5 0 / XYZ 270115 C 20 1 2 #= 0 , 0 executed, 5 booked, 0 cancelled
+cross bid 5 0 / XYZ 270115 C 20 1 2 #= 36
+cross 5 0 / XYZ 270115 C 20 1 2 #= 36
+cross buy / XYZ 270115 C 20 1 2 #= 36
+cross buy +5 0 / XYZ 270115 C 20 1 2 #= 36
+cross buy 5.0 0 / XYZ 270115 C 20 1 2 #= 36
+cross buy 5 / XYZ 270115 C 20 1 2 #= 36
+cross buy 5 -1 / XYZ 270115 C 20 1 2 #= 36
+cross buy 5 1:2 / XYZ 270115 C 20 1 2 #= 36
+cross buy 5 0 1 / XYZ 270115 C 20 1 2 #= 36
+cross buy 5 0 1: / XYZ 270115 C 20 1 2 #= 36
+cross buy 5 0 :2 / XYZ 270115 C 20 1 2 #= 36
+cross buy 5 0 1:2:3 / XYZ 270115 C 20 1 2 #= 36
+cross buy 5 0 1:2.0 / XYZ 270115 C 20 1 2 #= 36
+cross buy 5 0 -1:2 / XYZ 270115 C 20 1 2 #= 36
+cross buy 5 0 1:2; 2:2 / XYZ 270115 C 20 1 2 #= 36
+cross buy 5 0 1:2 XYZ 270115 C 20 1 2 #= 36
+cross buy 5 0 1:2 #= 36
+cross buy 5 0 1:2 # / XYZ 270115 C 20 1 2 #= 36
+cross buy 5 0 1:2/ XYZ 270115 C 20 1 2 #= 36
+cross buy 5 0 1:2 / #= 36
+cross buy 5 0 1:2 / / XYZ 270115 C 20 1 2 #= 36
+cross buy 5 0 1:2 / XYZ 270115 C 20 1 #= 36
+cross buy 5 0 1:2 / XYZ 270115 C 20 1 2 1:2 #= 36
+cross buy 5 0 1:2 / XYZ 270115 C 20 1 2 resting resting #= 36
 fix shares +100 | #= 30
 fix | #= 33";
 
@@ -599,5 +720,52 @@ fix | #= 33";
             (&pairs[0].place[..], &pairs[1].place[..]),
             ("file:2", "file:3")
         );
+    }
+
+    #[test]
+    fn crossings_are_read() {
+        let cases = read(
+            "set nbo=1.2\n\
+            cross buy 100 1.23 1.2:10\t1.24:20 / XYZ 270115 C 20 1.24 1.3 \
+                #= 0 10 0, 10 executed, 0 booked, 90 cancelled\n\
+            cross sell 7 0 / X /   270115C00020000 1 2 resting #= 4\n\
+            cross sell 7 0 / XYZ 270115 C 20 1 2 #= 0, 0 executed, 7 booked, 0 cancelled\n\
+            cross buy 7 0 1:0 / XYZ 270115 C 20 1 2 #= 36\n\
+            cross buy 7 0 1:1 / XYZ 270115 C 20 1 2 resting #= 26 cancel",
+        );
+        let crossings = cases.unwrap_or_else(|trouble| panic!("{trouble}"));
+        let crossings = crossings.crossings;
+        let quote = |symbol, bid, offer, resting| {
+            let mut quote = Quote::new(symbol, bid, offer);
+            (quote.resting, quote.market[market::NBO]) = (resting, 1_200);
+            quote
+        };
+        let call = b"XYZ   270115C00020000";
+        let offers = [(1_200, 10), (1_240, 20)];
+        let mut bid = Crossing::new(quote(call, 1_240, 1_300, 0), 100, &offers);
+        bid.away = 1_230;
+        let mut sale = Crossing::new(quote(b"X /   270115C00020000", 1_000, 2_000, 1), 7, &[]);
+        sale.sell = 1;
+        assert_eq!([&crossings[0].case, &crossings[1].case], [&bid, &sale]);
+        let answer = CrossingAnswer {
+            number: ACCEPTED,
+            cancel: 0,
+            executed: 10,
+            booked: 0,
+            cancelled: 90,
+            fills: vec![10, 0],
+        };
+        assert_eq!(crossings[0].answer, answer);
+        let of_quote =
+            |number, cancel, fills| CrossingAnswer::nothing(QuoteAnswer { number, cancel }, fills);
+        assert_eq!(crossings[1].answer, of_quote(4, 0, 0));
+        let booked = CrossingAnswer {
+            booked: 7,
+            ..of_quote(ACCEPTED, 0, 0)
+        };
+        assert_eq!(crossings[2].answer, booked);
+        assert_eq!(crossings[3].answer, of_quote(36, 0, 1));
+        assert_eq!(crossings[4].answer, of_quote(26, 1, 1));
+        assert_eq!(crossings[4].place, "file:6");
     }
 }

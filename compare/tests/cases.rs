@@ -6,6 +6,7 @@ use compare::{
     arrival::{Answer, Arrival, RawLeg},
     case::Case,
     cases::{self, Expected},
+    crossing::Crossing,
     limits::{every, EXTREMES},
     numbers::{self, kind, Kind, Of, ACCEPTED, BAD_MARKET, BAD_SETTING, BAD_SHARES, NOT_21_BYTES},
     order,
@@ -93,6 +94,31 @@ fn both_hold_every_quote() {
         }
     }
     run.finish(&numbers_of(Of::Quote), 4 * 300);
+}
+
+/// Every number that a line can get of a crossing quote.
+fn numbers_of_crossings() -> Vec<u64> {
+    [numbers_of(Of::Quote), numbers_of(Of::Crossing)].concat()
+}
+
+/// Whether a quote is resting changes the cancel flag alone, as of a quote, and fills lent beyond the
+/// list are 0.
+#[test]
+fn both_hold_every_crossing() {
+    let mut run = Run::new("crossing quotes of cases");
+    let crossings = cases::all().crossings;
+    hold(&mut run, &crossings, &["crossing", "papers"]);
+    for crossing in crossings {
+        for resting in [0, 1, u64::MAX] {
+            let (mut case, mut answer) = (crossing.case.clone(), crossing.answer.clone());
+            case.quote.resting = resting;
+            case.fills_length += 3;
+            answer.cancel = u64::from(resting != 0 && kind(answer.number) == Kind::Rejected);
+            answer.fills.extend([0; 3]);
+            run.expect(&case, answer, &crossing.place);
+        }
+    }
+    run.finish(&numbers_of_crossings(), 4 * 250);
 }
 
 /// An order is the same in another sequence of its legs, and where all counts are divided or
@@ -311,9 +337,43 @@ impl Varied for Quote {
     }
 }
 
+impl Varied for Crossing {
+    const OWN: &'static [&'static str] = &["SELL", "SIZE", "AWAY", "BID", "OFFER", "RESTING"];
+
+    fn numbers(&mut self) -> Vec<&mut u64> {
+        let own = [&mut self.sell, &mut self.size, &mut self.away];
+        own.into_iter().chain(self.quote.numbers()).collect()
+    }
+
+    /// The quote's, the away price and each one of the list.
+    fn at_near_prices(&self) -> Vec<Self> {
+        let quotes = self.quote.at_near_prices().into_iter();
+        let of_quote = quotes.map(|quote| Crossing {
+            quote,
+            ..self.clone()
+        });
+        let mut all: Vec<Self> = of_quote.collect();
+        for by in [1, -1] {
+            let mut near = self.clone();
+            near.away = self.away.wrapping_add_signed(by);
+            all.push(near);
+            for place in 0..self.prices.len() {
+                let mut near = self.clone();
+                near.prices[place] = self.prices[place].wrapping_add_signed(by);
+                all.push(near);
+            }
+        }
+        all
+    }
+
+    fn number(answer: &Self::Answer) -> u64 {
+        answer.number
+    }
+}
+
 /// Whether a number is 0 for no, and anything else for yes.
 fn is_flag(name: &str) -> bool {
-    let others = "KIND STOP MANUAL OPENING RESTING CONTINUE_UNPAIRED \
+    let others = "KIND STOP MANUAL OPENING SELL RESTING CONTINUE_UNPAIRED \
         ADJUSTED EUROPEAN_INDEX OPEN_ELSEWHERE EXTENDED_HOURS";
     name.starts_with("CHECK_") || others.split(' ').any(|flag| name.ends_with(flag))
 }
@@ -386,6 +446,16 @@ fn numbers_of_quotes_changed() {
     run.finish(&numbers_of(Of::Quote), 500_000);
 }
 
+/// The numbers of a crossing quote's own decide somewhere; settings and market values do in quotes.
+#[test]
+fn numbers_of_crossings_changed() {
+    let mut run = Run::new("crossing quotes changed");
+    let idle = change_numbers(&mut run, near(&cases::all().crossings));
+    let decides = |name| !idle.contains(name);
+    assert!(Crossing::OWN.iter().all(decides), "{idle:?}");
+    run.finish(&numbers_of_crossings(), 500_000);
+}
+
 /// With every choice of switches, the lowest check is given that is on and rejects the case alone.
 /// Tells which checks reject a case together.
 fn switch_checks<C: Varied>(run: &mut Run, cases: &[Expected<C>]) -> BTreeSet<Vec<u64>> {
@@ -418,6 +488,7 @@ fn lowest_check_that_is_on() {
     let cases = cases::all();
     let mut together = switch_checks(&mut run, &cases.orders);
     together.append(&mut switch_checks(&mut run, &cases.quotes));
+    together.append(&mut switch_checks(&mut run, &cases.crossings));
     for two in [[20, 25], [21, 25], [22, 23], [23, 24], [20, 26], [21, 26]] {
         assert!(together.contains(two.as_slice()), "{two:?}");
     }
@@ -441,6 +512,8 @@ fn every_case_under_all_terms() {
     let of_pairs = cases.pairs.iter().map(|pair| &pair.case);
     let of_pairs = of_pairs.map(|case| (&case.agency.settings, &case.agency.market));
     let of_quotes = cases.quotes.iter().map(|quote| &quote.case);
+    let of_crossings = cases.crossings.iter().map(|crossing| &crossing.case.quote);
+    let of_quotes = of_quotes.chain(of_crossings);
     let of_quotes = of_quotes.map(|case| (&case.settings, &case.market));
     let all = of_orders.chain(of_pairs).chain(of_quotes);
     for (settings, market) in all.collect::<BTreeSet<_>>() {
@@ -448,6 +521,7 @@ fn every_case_under_all_terms() {
         put_under(&mut run, &cases.orders, &terms);
         put_under(&mut run, &cases.pairs, &terms);
         put_under(&mut run, &cases.quotes, &terms);
+        put_under(&mut run, &cases.crossings, &terms);
     }
     run.finish(&[0, 9, 10, 20, 21, 22, 23, 24, 25, 26], 100 * 500);
 }

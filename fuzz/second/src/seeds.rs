@@ -76,6 +76,9 @@ fn all() -> Vec<Vec<u8>> {
     for expected in &cases.quotes {
         seeds.push(quote(&expected.case));
     }
+    for expected in &cases.crossings {
+        seeds.push(crossing(&expected.case));
+    }
     for _ in 0..RAW_CASES {
         seeds.push(order(&generate::arrival(&mut random)));
         let kinds = [0; 3].map(|_| random.between(0, 400_000));
