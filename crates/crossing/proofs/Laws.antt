@@ -16,7 +16,7 @@ use Rattle.rules.specs.Lists.{total}
 use Rattle.rules.specs.Kinds.{isRefused}
 use Rattle.rules.specs.Market.{atOrPast}
 use Rattle.rules.specs.Quote.{checkQuote}
-use Rattle.rules.specs.Crossing.{Crossing, isBought, crossingPrice, isBadCrossing, mayFill, fillsOf, crossingFills, isBooked, Crossed, execution, unexecuted, unfilled, checkCrossing}
+use Rattle.rules.specs.Crossing.{Crossing, isBought, crossingPrice, isBadCrossing, mayFill, fillsOf, crossingFills, isBooked, execution, unexecuted, unfilled, checkCrossing}
 use Rattle.rules.proofs.Executing.{good-lengths, total-fills, length-fills, gets-refused, gets-36, gets-rejected, gets-executed}
 use Rattle.execution.specs.Bounds.{furthest}
 use Rattle.execution.proofs.Laws.{may-fill-at}

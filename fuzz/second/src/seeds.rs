@@ -61,6 +61,17 @@ pub unsafe extern "C" fn second_write_seeds(folder: *const std::ffi::c_char) {
 
 fn all() -> Vec<Vec<u8>> {
     let mut random = Random::new(seed());
+    let mut seeds = of_cases();
+    for _ in 0..RAW_CASES {
+        seeds.append(&mut raw(&mut random));
+    }
+    for _ in 0..SHAPED_ROUNDS {
+        seeds.append(&mut shaped(&mut random));
+    }
+    seeds
+}
+
+fn of_cases() -> Vec<Vec<u8>> {
     let mut seeds = Vec::new();
     let cases = cases::all();
     for expected in &cases.orders {
@@ -70,45 +81,49 @@ fn all() -> Vec<Vec<u8>> {
         let contra = reversed(&expected.case);
         seeds.push(pair(&Pair::of(&expected.case, &contra, 1)));
     }
-    for expected in &cases.pairs {
-        seeds.push(pair(&expected.case));
+    seeds.extend(cases.pairs.iter().map(|expected| pair(&expected.case)));
+    seeds.extend(cases.quotes.iter().map(|expected| quote(&expected.case)));
+    let crossings = cases.crossings.iter();
+    seeds.extend(crossings.map(|expected| crossing(&expected.case)));
+    seeds
+}
+
+/// One of each entry, as it is.
+fn raw(random: &mut Random) -> Vec<Vec<u8>> {
+    let mut seeds = vec![order(&generate::arrival(random))];
+    let kinds = [0; 3].map(|_| random.between(0, 400_000));
+    let seen = kinds.iter().sum::<u64>() + random.between(0, 7) / 7;
+    let tally = [seen, kinds[0], kinds[1], kinds[2]];
+    seeds.push(tallied(&generate::arrival(random), tally));
+    seeds.push(message(&generate::arrival(random)));
+    seeds.push(tallied_message(&generate::arrival(random), tally));
+    seeds.push(pair(&generate::pair(random)));
+    seeds.push(quote(&generate::quote(random)));
+    seeds.push(crossing(&generate::crossing(random)));
+    let symbol = legs_of(&list_of(random, 1))[0].0;
+    seeds.push(read(&symbol));
+    seeds.push(write(&osi::read(&symbol).parts));
+    let arrival = generate::arrival(random);
+    for entry in [START, ORDER_SESSION, FIX_SESSION, RELEASE] {
+        seeds.push(in_session(random, entry, &arrival));
     }
-    for expected in &cases.quotes {
-        seeds.push(quote(&expected.case));
-    }
-    for expected in &cases.crossings {
-        seeds.push(crossing(&expected.case));
-    }
-    for _ in 0..RAW_CASES {
-        seeds.push(order(&generate::arrival(&mut random)));
-        let kinds = [0; 3].map(|_| random.between(0, 400_000));
-        let seen = kinds.iter().sum::<u64>() + random.between(0, 7) / 7;
-        let tally = [seen, kinds[0], kinds[1], kinds[2]];
-        seeds.push(tallied(&generate::arrival(&mut random), tally));
-        seeds.push(message(&generate::arrival(&mut random)));
-        seeds.push(tallied_message(&generate::arrival(&mut random), tally));
-        seeds.push(pair(&generate::pair(&mut random)));
-        seeds.push(quote(&generate::quote(&mut random)));
-        seeds.push(crossing(&generate::crossing(&mut random)));
-        let symbol = legs_of(&list_of(&mut random, 1))[0].0;
-        seeds.push(read(&symbol));
-        seeds.push(write(&osi::read(&symbol).parts));
-        let arrival = generate::arrival(&mut random);
-        for entry in [START, ORDER_SESSION, FIX_SESSION, RELEASE] {
-            seeds.push(in_session(&mut random, entry, &arrival));
-        }
-    }
-    for _ in 0..SHAPED_ROUNDS {
-        for entry in [READ, WRITE, ORDER, ORDER, ORDER, TALLIED, QUOTE, QUOTE] {
-            let bytes = random.bytes(SHAPED_BYTES);
-            seeds.push([&[entry, SHAPED], &bytes[..]].concat());
-        }
-        for entry in [FIX, FIX, FIX_TALLIED, PAIR, PAIR] {
-            let bytes = random.bytes(SHAPED_LONG_BYTES);
-            seeds.push([&[entry, SHAPED], &bytes[..]].concat());
-        }
-        for entry in [START, ORDER_SESSION, FIX_SESSION, RELEASE, CROSSING] {
-            let bytes = random.bytes(SHAPED_SEQUENCE_BYTES);
+    seeds
+}
+
+/// Bytes for the shaped form, as many as an entry has use for.
+fn shaped(random: &mut Random) -> Vec<Vec<u8>> {
+    let short: &[u8] = &[READ, WRITE, ORDER, ORDER, ORDER, TALLIED, QUOTE, QUOTE];
+    let long: &[u8] = &[FIX, FIX, FIX_TALLIED, PAIR, PAIR];
+    let sequences: &[u8] = &[START, ORDER_SESSION, FIX_SESSION, RELEASE, CROSSING];
+    let lengths = [
+        (short, SHAPED_BYTES),
+        (long, SHAPED_LONG_BYTES),
+        (sequences, SHAPED_SEQUENCE_BYTES),
+    ];
+    let mut seeds = Vec::new();
+    for (entries, length) in lengths {
+        for &entry in entries {
+            let bytes = random.bytes(length);
             seeds.push([&[entry, SHAPED], &bytes[..]].concat());
         }
     }

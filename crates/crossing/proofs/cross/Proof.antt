@@ -1,5 +1,4 @@
 use borrow.Author.Needs.{needs}
-use Rattle.rules.specs.Crossing.{Crossing}
 use Rattle.crossing.proofs.Laws.{refused, listed-badly, rejected, listed-well, accepted}
 use Rattle.crossing.proofs.cross.Statement.{statement}
 use Rattle.crossing.proofs.cross.Tie as tie

@@ -1,5 +1,4 @@
 use borrow.Author.Needs.{needs}
-use Rattle.rules.specs.Crossing.{Crossing}
 use Rattle.crossing.proofs.Laws.{executed}
 use Rattle.crossing.proofs.execute.Statement.{statement}
 use Rattle.crossing.proofs.execute.Tie as tie

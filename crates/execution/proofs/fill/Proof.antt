@@ -1,7 +1,7 @@
 -- The offers so far have filled what they can, and the rest of the list has what is left of the size.
 use borrow.Author.Needs.{needs}
 use native.Mathlib.Omega.{arith}
-use mathlib.Core.Path.{_≡_, refl, _∙_}
+use mathlib.Core.Path.{_≡_, refl}
 use Prim.Native.Nat.{_≤_, _-_}
 use lib.ListN.{length, length-set}
 use Rattle.rules.specs.Market.{atOrPast}

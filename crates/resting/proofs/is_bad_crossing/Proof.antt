@@ -1,7 +1,7 @@
 use borrow.Author.Needs.{needs}
 use mathlib.Core.Path.{_∙_, ap}
 use mathlib.Core.Bool.{Bool}
-use Rattle.rules.specs.Crossing.{Crossing, listHolds}
+use Rattle.rules.specs.Crossing.{listHolds}
 use Rattle.resting.proofs.Laws.{bad-lengths, paired, by-parts}
 use Rattle.resting.proofs.is_bad_crossing.Statement.{statement}
 use Rattle.resting.proofs.is_bad_crossing.Tie as tie
