@@ -1,4 +1,6 @@
 // Numbers picked, compared and held to limits: total, as the choices between yes and no.
+#![tactic(auto)]
+
 ghost use Rattle.std.specs.Prelude.{◌≡◌, cond, ◌<◌, min, max};
 ghost use Rattle.rules.specs.Limits.{within};
 

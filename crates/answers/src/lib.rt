@@ -1,4 +1,6 @@
 // The answer to a refused order.
+#![tactic(auto)]
+
 ghost use Rattle.std.specs.Prelude.{◌≡◌};
 ghost use Rattle.rules.specs.Numbers.{refused};
 

@@ -1,4 +1,6 @@
 // Check 22, of the unit legs of a complex order.
+#![tactic(auto)]
+
 ghost use Rattle.std.specs.Prelude.{◌≡◌, List, true, false, ℕ, ◌≤◌, length, take};
 ghost use Rattle.rules.specs.Lists.{same_bool, all, All};
 ghost use Rattle.rules.specs.Checks.{sizes, is_below, shares_on, buy_buy};

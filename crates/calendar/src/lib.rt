@@ -1,4 +1,6 @@
 // The day that exists, in the years 2000 to 2099.
+#![tactic(auto)]
+
 ghost use Rattle.std.specs.Prelude.{◌≡◌, ◌≤◌};
 ghost use Rattle.rules.specs.Symbol.{leap_day, days_in, day_exists};
 

@@ -1,4 +1,6 @@
 // The tests of a list one after another, each as one step.
+#![tactic(auto)]
+
 ghost use Rattle.std.specs.Prelude.{◌≡◌, List, ◌∷◌, Bool, ◌&&◌, ℕ};
 ghost use Rattle.rules.specs.Lists.{every};
 ghost use Rattle.chain.specs.Chain.{after, IsSome};

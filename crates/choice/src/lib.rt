@@ -1,4 +1,6 @@
 // Total choices between yes and no: with these a rule is one expression, and its proof one equation.
+#![tactic(auto)]
+
 ghost use Rattle.std.specs.Prelude.{◌≡◌, cond, not, ◌&&◌, ◌||◌};
 
 pub fn both(a: bool, b: bool) -> bool

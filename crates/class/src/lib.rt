@@ -1,4 +1,6 @@
 // The class of unit legs.
+#![tactic(auto)]
+
 ghost use Rattle.std.specs.Prelude.{◌≡◌, false, [], ◌∷◌, ℕ, length};
 ghost use Rattle.rules.specs.Class.{has_own_class, class_with};
 ghost use Rattle.keys.specs.Tags.{legs_in};

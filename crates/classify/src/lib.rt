@@ -1,4 +1,6 @@
 // Class, shape and pairings of an order's legs.
+#![tactic(auto)]
+
 ghost use Rattle.std.specs.Prelude.{◌≡◌, false, ℕ, length};
 ghost use Rattle.keys.specs.Tags.{legs_in, ValidTags};
 ghost use Rattle.classify.specs.Legs.{IsClassified};

@@ -1,5 +1,7 @@
 // The checks of a complex order: 22, 23 and 24, and the first of them that applies. Tags and unit counts are those of
 // the legs in the first walk's sequence; no check asks for the legs' root.
+#![tactic(auto)]
+
 ghost use Rattle.std.specs.Prelude.{◌≡◌, List, true, false, ℕ, ◌≤◌, length};
 ghost use Rattle.rules.specs.declared.Leg.{Leg};
 ghost use Rattle.rules.specs.declared.Market.{Market};

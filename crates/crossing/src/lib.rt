@@ -1,4 +1,6 @@
 // A crossing quote, by the quote check's answer: its number, and what it would execute.
+#![tactic(auto)]
+
 ghost use Rattle.std.specs.Prelude.{◌≡◌, not, ◌≤◌, length, replicate};
 ghost use Rattle.rules.specs.Order.{is_yes};
 ghost use Rattle.rules.specs.Kinds.{is_refused};

@@ -1,1 +1,2 @@
 // No code: fair premium tables, and demand 3 of the order check.
+#![tactic(auto)]

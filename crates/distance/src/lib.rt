@@ -1,4 +1,6 @@
 // The distance from a reference that is set for it: how many ticks, how large a tick, and the ticks as a price.
+#![tactic(auto)]
+
 ghost use Rattle.std.specs.Prelude.{◌≡◌, cond, ◌≤◌};
 ghost use Rattle.rules.specs.Market.{acceptable_ticks, tick_at};
 ghost use Rattle.rules.specs.Quantities.{distance};

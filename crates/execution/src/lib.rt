@@ -1,4 +1,6 @@
 // What a crossing quote fills of the resting list, and what becomes of the remainder of its size.
+#![tactic(auto)]
+
 ghost use Rattle.std.specs.Prelude.{◌≡◌, ◌++◌, ◌-◌, ◌≤◌, length, drop, replicate};
 ghost use Rattle.rules.specs.Lists.{total};
 ghost use Rattle.rules.specs.Market.{at_or_past};

@@ -1,5 +1,7 @@
 // A reader that holds a message and its position between fields. The borrow checker covers no function over such a
 // struct: these few are proved by hand, and leave the work to `fields`.
+#![tactic(auto)]
+
 ghost use Rattle.std.specs.Prelude.{◌≡◌};
 ghost use Rattle.fields.specs.Fields.{field_at};
 

@@ -1,4 +1,6 @@
 // The fields of a FIX message, by their places: document 02, S-1.
+#![tactic(auto)]
+
 ghost use Rattle.std.specs.Prelude.{◌≡◌, cond, ◌+◌, ◌≤◌, min, length, eqb};
 ghost use Rattle.fields.specs.Fields.{no_field, field_at};
 ghost use Rattle.fields.specs.Steps.{no_tag, tag_at, ValueEnds};

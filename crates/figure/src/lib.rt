@@ -1,4 +1,6 @@
 // A signed figure of contracts, bought less sold. A side has a sign: 1 for bought, -1 for sold.
+#![tactic(auto)]
+
 ghost use Rattle.std.specs.Prelude.{◌≡◌, cond, ◌≤◌, eqb, pos, nat_abs};
 ghost use Rattle.rules.specs.OpenContracts as figures;
 

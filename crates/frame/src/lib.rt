@@ -1,4 +1,6 @@
 // The frame of a message: its first three fields, and its last. Document 02, S-1.
+#![tactic(auto)]
+
 ghost use Rattle.std.specs.Prelude.{◌≡◌, ◌&&◌, eqb, length};
 ghost use Rattle.rules.specs.Lists.{same_numbers};
 ghost use Rattle.fields.specs.Fields.{Inside, value_in};

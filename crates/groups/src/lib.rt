@@ -1,4 +1,6 @@
 // The needed tags of a message, and their groups: one tag after the other. Document 02, S-1.
+#![tactic(auto)]
+
 ghost use Rattle.std.specs.Prelude.{◌≡◌, ◌<◌};
 ghost use Rattle.groups.specs.Sequence.{due_tag, outside, among, sequence_step, is_complete};
 

@@ -1,4 +1,6 @@
 // Settings and market as the host hands them in.
+#![tactic(auto)]
+
 ghost use Rattle.std.specs.Prelude.{◌≡◌, length};
 ghost use Rattle.rules.specs.Market.{settings_from, settings_of, market_from, market_of};
 

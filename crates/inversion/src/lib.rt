@@ -1,4 +1,6 @@
 // Check 26, quote inversion.
+#![tactic(auto)]
+
 ghost use Rattle.std.specs.Prelude.{◌≡◌, true, ◌≤◌};
 ghost use Rattle.rules.specs.Market.{settings_hold, market_holds};
 ghost use Rattle.rules.specs.Quote.{comparison, set_distance, is_inverted, is_quoting, quote_inversion};

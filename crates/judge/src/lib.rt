@@ -1,4 +1,6 @@
 // A valid order: its class, shape and pairings, and the first check that rejects it.
+#![tactic(auto)]
+
 ghost use Rattle.std.specs.Prelude.{◌≡◌, [], ◌∷◌, true, false, ℕ, ◌≤◌};
 ghost use Rattle.rules.specs.declared.Market.{Market};
 ghost use Rattle.rules.specs.Order.{is_simple, is_complex};

@@ -1,5 +1,7 @@
 // A leg as one number, its tag, and the legs of an order as arrays of numbers. Sorted by their tags they stand in the
 // first walk's sequence; groups, sides and series are read off the tags.
+#![tactic(auto)]
+
 ghost use Rattle.std.specs.Prelude.{◌≡◌, false, ◌+◌, ◌*◌, ◌≤◌, ◌<◌, length};
 ghost use Rattle.rules.specs.Pairing.{digit};
 ghost use Rattle.rules.specs.OpenContracts.{sign};

@@ -1,4 +1,6 @@
 // A leg of the host's bytes: 21 of the symbol and 8 of the count.
+#![tactic(auto)]
+
 ghost use Rattle.std.specs.Prelude.{◌≡◌, [], ◌∷◌, ◌<◌, length};
 ghost use Rattle.rules.specs.Order.{word, raw_leg};
 

@@ -1,4 +1,6 @@
 // The limits of settings and market, each as one step in the definition's sequence.
+#![tactic(auto)]
+
 ghost use Rattle.std.specs.Prelude.{◌≡◌, List, ◌∷◌, Bool, true, ◌&&◌};
 ghost use Rattle.rules.specs.Limits.{within};
 ghost use Rattle.rules.specs.Lists.{every};

@@ -1,4 +1,6 @@
 // One login of a session: read from its place, tested, changed, and put back.
+#![tactic(auto)]
+
 ghost use Rattle.std.specs.Prelude.{◌≡◌, false, ◌<◌, ◌≤◌, length};
 ghost use Rattle.rules.specs.Tally.{is_bad_tally};
 ghost use Rattle.rules.specs.Session.{login_at, with_login, is_rejection_limit, is_bad_login, counted_login, released_login};

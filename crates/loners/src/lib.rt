@@ -1,4 +1,6 @@
 // Loners beside pairs, and the class that both give.
+#![tactic(auto)]
+
 ghost use Rattle.std.specs.Prelude.{◌≡◌, ◌≤◌, length};
 ghost use Rattle.loners.specs.Tallies.{alone_at, tally_class, joined_tallies, Loners};
 

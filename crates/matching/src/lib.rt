@@ -1,4 +1,6 @@
 // One match of two legs of a group: what it leaves, the pair that it makes, and the figure.
+#![tactic(auto)]
+
 ghost use Rattle.std.specs.Prelude.{◌≡◌, true, ◌+◌, ◌≤◌, ◌<◌, get_or};
 ghost use Rattle.rules.specs.OpenContracts.{sign, shows_other};
 ghost use Rattle.keys.specs.Tags.{is_bought};

@@ -1,4 +1,6 @@
 // The groups of a message as an order record: document 02, S-1.
+#![tactic(auto)]
+
 ghost use Rattle.std.specs.Prelude.{◌≡◌, ◌≤◌};
 ghost use Rattle.rules.specs.Order.{Recorded};
 ghost use Rattle.rules.specs.Fix.{legs_said};

@@ -1,4 +1,6 @@
 // Values of a message's fields that are one byte, or a number. Document 02, S-1.
+#![tactic(auto)]
+
 ghost use Rattle.std.specs.Prelude.{◌≡◌, true, [], ◌∷◌, ◌<◌};
 ghost use Rattle.rules.specs.Lists.{same_numbers};
 ghost use Rattle.rules.specs.Fix.{one, is_number, number_of, number_said};

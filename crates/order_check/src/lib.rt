@@ -1,4 +1,6 @@
 // The order check.
+#![tactic(auto)]
+
 ghost use Rattle.std.specs.Prelude.{◌≡◌};
 ghost use Rattle.rules.specs.Market.{settings_of, market_of};
 ghost use Rattle.rules.specs.Numbers.{check_order, check_slices};

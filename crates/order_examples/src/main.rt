@@ -1,5 +1,7 @@
 // Some of document 01's examples, T10 as document 02's S-5 has it, through the order check on slices: number, class,
 // shape and pairings of each. The file cases/papers.desk has all of them.
+#![tactic(auto)]
+
 ghost use Rattle.std.specs.Prelude.{◌≡◌};
 ghost use Rattle.rules.specs.Numbers.{check_slices};
 ghost use Rattle.rules.specs.Examples.{example_settings, example_market, example_terms};

@@ -1,4 +1,6 @@
 // The host's slices as an order record.
+#![tactic(auto)]
+
 ghost use Rattle.std.specs.Prelude.{◌≡◌, ◌*◌, ◌≤◌, length};
 ghost use Rattle.rules.specs.Order.{raw_legs, Recorded};
 ghost use Rattle.rules.specs.Numbers.{are_whole};

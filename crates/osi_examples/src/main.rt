@@ -1,4 +1,6 @@
 // Writes and reads option symbols through the library, the writer's own form with its part of the lent buffer.
+#![tactic(auto)]
+
 use libc::STDOUT_FILENO;
 use rules::{Mills, SymbolParts};
 

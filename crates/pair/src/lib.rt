@@ -1,4 +1,6 @@
 // Which of the two orders of an auction pair pass: document 02, S-2.
+#![tactic(auto)]
+
 ghost use Rattle.std.specs.Prelude.{◌≡◌};
 ghost use Rattle.rules.specs.Pair.{paired};
 

@@ -1,4 +1,6 @@
 // Both walks of an order's legs: how many pairings they make, and the class that pairs and loners give.
+#![tactic(auto)]
+
 ghost use Rattle.std.specs.Prelude.{◌≡◌, map, false, ℕ, length, take};
 ghost use Rattle.rules.specs.Pairing.{one_strike, by_expiry};
 ghost use Rattle.rules.specs.Pairing as pairing;

@@ -1,4 +1,6 @@
 // The tests of an amount paid for one option, of an order as of a quote.
+#![tactic(auto)]
+
 ghost use Rattle.std.specs.Prelude.{◌≡◌};
 ghost use Rattle.rules.specs.Checks.{put_test, call_test};
 

@@ -1,4 +1,6 @@
 // The quote check.
+#![tactic(auto)]
+
 ghost use Rattle.std.specs.Prelude.{◌≡◌, true};
 ghost use Rattle.rules.specs.Market.{settings_of, market_of, settings_hold, market_holds};
 ghost use Rattle.rules.specs.Quote.{quote_rejection, answered_quote, check_quote};

@@ -1,4 +1,6 @@
 // The refusals of a quote: the first number that applies, and root and series as read.
+#![tactic(auto)]
+
 ghost use Rattle.std.specs.Prelude.{◌≡◌};
 ghost use Rattle.rules.specs.Quote.{is_bad_quote};
 ghost use Rattle.quote_validity.specs.Quotes.{IsQuoteRead};

@@ -1,4 +1,6 @@
 // The legs of an order record as arrays of numbers, and the refusals that reading finds.
+#![tactic(auto)]
+
 ghost use Rattle.std.specs.Prelude.{◌≡◌, length};
 ghost use Rattle.reading.specs.Legs.{IsRead};
 

@@ -1,4 +1,6 @@
 // The reference price of a single option.
+#![tactic(auto)]
+
 ghost use Rattle.std.specs.Prelude.{◌≡◌, cond, not, ◌&&◌, ◌||◌, eqb, ltb};
 ghost use Rattle.rules.specs.Market.{is_missing, is_unusable, at_or_past, reference};
 

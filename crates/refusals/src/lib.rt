@@ -1,4 +1,6 @@
 // The tests of refusals 8 and 33: the price and the shares.
+#![tactic(auto)]
+
 ghost use Rattle.std.specs.Prelude.{◌≡◌, List, length, get_or};
 ghost use Rattle.rules.specs.declared.Leg.{Leg};
 ghost use Rattle.rules.specs.Order.{no_leg};

@@ -1,4 +1,6 @@
 // What comes with a crossing quote, within its limits: the resting list, the quote's size and the away price.
+#![tactic(auto)]
+
 ghost use Rattle.std.specs.Prelude.{◌≡◌, not, ◌+◌, ◌<◌, length, drop, get_or};
 ghost use Rattle.rules.specs.Order.{is_yes};
 ghost use Rattle.rules.specs.Crossing.{leads, list_holds, are_bad_lengths, is_bad_crossing};

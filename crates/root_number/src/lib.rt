@@ -1,4 +1,6 @@
 // A root's six bytes as one number, the first byte highest, and back.
+#![tactic(auto)]
+
 ghost use Rattle.std.specs.Prelude.{◌≡◌, [], ◌∷◌, ◌<◌, ◌^◌};
 ghost use Rattle.rules.specs.Numerals.{value, numeral};
 

@@ -1,4 +1,6 @@
 // What a root is: one to six letters and digits, a letter first, then spaces.
+#![tactic(auto)]
+
 ghost use Rattle.std.specs.Prelude.{◌≡◌, ◌||◌, [], ◌∷◌};
 ghost use Rattle.rules.specs.Symbol.{is_letter, is_digit, is_root};
 

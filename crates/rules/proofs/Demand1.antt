@@ -40,6 +40,7 @@ use Rattle.rules.proofs.WithoutShares.{legs_moved, no_size}
 -- what holds of all listed numbers holds of each
 pub passes : (f : ℕ → Bool) (n : ℕ) (ns : List ℕ) → all f ns ≡ true → Memᴰ n ns → f n ≡ true
 unfolding all
+passes f n [] h k = elim k [ ]
 passes f n (m ∷ ns) h (Memᴰ.head e) = ap f e ∙ (and_both (f m) (all f ns) h).0
 passes f n (m ∷ ns) h (Memᴰ.tail k) = passes f n ns (and_both (f m) (all f ns) h).1 k
 
@@ -247,6 +248,7 @@ tallied_check t c = tallied_answers (call_numbers c) (no_twelve c) t (own_answer
 -- ---- sessions
 
 member_more : (n : ℕ) (ns ms : List ℕ) → Memᴰ n ns → Memᴰ n (ns ++ ms)
+member_more n [] ms m = elim m [ ]
 member_more n (k ∷ ns) ms (Memᴰ.head e) = Memᴰ.head e
 member_more n (k ∷ ns) ms (Memᴰ.tail m) = Memᴰ.tail (member_more n ns ms m)
 

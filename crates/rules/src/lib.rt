@@ -1,4 +1,5 @@
 // The types of documents 01 and 02. What they mean is in specs/.
+#![tactic(auto)]
 
 // A price, a strike or another amount of money, in thousandths of a dollar.
 #[derive(Drop)]

@@ -1,5 +1,7 @@
 // The loop over the fields of a message, with the reader held in a local from field to field: document 02, S-1. It is
 // the one loop that is proved by hand; what a field does to the state is `step`'s.
+#![tactic(auto)]
+
 ghost use Rattle.std.specs.Prelude.{◌≡◌, ◌<◌, length};
 ghost use Rattle.rules.specs.Lists.{same_numbers};
 ghost use Rattle.rules.specs.Fix.{is_further, one, has_form};

@@ -1,4 +1,6 @@
 // The series that a symbol's parts say.
+#![tactic(auto)]
+
 ghost use Rattle.std.specs.Prelude.{◌≡◌, ◌≤◌};
 ghost use Rattle.rules.specs.Order.{series_of};
 

@@ -1,4 +1,6 @@
 // The test of refusal 6: a series twice.
+#![tactic(auto)]
+
 ghost use Rattle.std.specs.Prelude.{◌≡◌, ◌≤◌, ◌<◌, length, take};
 ghost use Rattle.rules.specs.Lists.{some_pair};
 ghost use Rattle.series_refusals.specs.Twice.{some_next, keys_of, is_same_key, stands_again, SortedTwice};

@@ -1,4 +1,6 @@
 // A session of 32 logins: what turns a call away, an order that is counted, and a release.
+#![tactic(auto)]
+
 ghost use Rattle.std.specs.Prelude.{◌≡◌, true, ◌-◌, length};
 ghost use Rattle.rules.specs.Session.{login_at, with_login, gets_twelve, turned_away, counted_login, release_login};
 

@@ -1,4 +1,6 @@
 // The start of a session: 32 limits, and a fresh login for each.
+#![tactic(auto)]
+
 ghost use Rattle.std.specs.Prelude.{◌≡◌, ◌&&◌, eqb, length};
 ghost use Rattle.rules.specs.Lists.{all};
 ghost use Rattle.rules.specs.Session.{is_rejection_limit, session_of, start_session};

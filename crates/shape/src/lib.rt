@@ -1,4 +1,6 @@
 // The shape of unit legs.
+#![tactic(auto)]
+
 ghost use Rattle.std.specs.Prelude.{◌≡◌, false, [], ◌∷◌, ℕ, length};
 ghost use Rattle.rules.specs.Lists.{every};
 ghost use Rattle.rules.specs.Pairing.{one_expiry};

@@ -1,4 +1,6 @@
 // What a buy meets, or a sell: each rule with a side is one function. A quote's bid buys, its offer sells.
+#![tactic(auto)]
+
 ghost use Rattle.std.specs.Prelude.{◌≡◌, ◌≤◌};
 ghost use Rattle.rules.specs.Market.{national, own, at_or_past, is_beyond};
 

@@ -1,4 +1,6 @@
 // The checks of a simple order: 20, 21 and 25, and the first of them that applies.
+#![tactic(auto)]
+
 ghost use Rattle.std.specs.Prelude.{◌≡◌, [], ◌∷◌, Bool, true, ℕ, ◌≤◌};
 ghost use Rattle.rules.specs.declared.Mills.{Mills};
 ghost use Rattle.rules.specs.declared.Series.{Series};

@@ -1,5 +1,7 @@
 // Strikes by their differences, and M, the most that the shape of unit legs can be worth.
 // A sum of two strikes could pass 64 bits, so differences are compared in its place: any strikes will do.
+#![tactic(auto)]
+
 ghost use Rattle.std.specs.Prelude.{◌≡◌, false, List, ℕ, ◌+◌, ◌-◌, ◌≤◌, min, max, length};
 ghost use Rattle.rules.specs.Class.{strike_of};
 ghost use Rattle.rules.specs.Checks.{maximum_of};

@@ -1,4 +1,6 @@
 // The sum that ends a message. Document 02, S-1.
+#![tactic(auto)]
+
 ghost use Rattle.std.specs.Prelude.{◌≡◌, ◌%◌, ◌≤◌, ◌<◌, length, take};
 ghost use Rattle.rules.specs.Lists.{total, same_numbers};
 ghost use Rattle.rules.specs.Numerals.{numeral};

@@ -1,4 +1,6 @@
 // The bytes of a symbol, from its parts.
+#![tactic(auto)]
+
 ghost use Rattle.std.specs.Prelude.{◌≡◌, ◌<◌};
 ghost use Rattle.rules.specs.Numerals.{numeral};
 ghost use Rattle.rules.specs.Symbol.{symbol_of};

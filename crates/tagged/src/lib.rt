@@ -1,5 +1,6 @@
 // A walk on numbers, for the code that walks: a tag and the open contracts stand for a leg, a tally for the pairs. Laws
 // only; the functions are in the crates that use them.
+#![tactic(auto)]
 
 // What is known of the pairs: their number, and whether one was a debit or a credit.
 #[derive(Drop)]

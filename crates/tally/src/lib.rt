@@ -1,4 +1,6 @@
 // A tally: its own test, and what it makes of the answer to an order.
+#![tactic(auto)]
+
 ghost use Rattle.std.specs.Prelude.{◌≡◌, false, ◌≤◌};
 ghost use Rattle.rules.specs.Kinds.{is_rejected};
 ghost use Rattle.rules.specs.Tally.{is_broken, is_bad_tally, one_more, counted, tallied};

@@ -1,4 +1,6 @@
 // An order's terms: made of the host's numbers, and what they say.
+#![tactic(auto)]
+
 ghost use Rattle.std.specs.Prelude.{◌≡◌, List, length};
 ghost use Rattle.rules.specs.declared.Leg.{Leg};
 ghost use Rattle.rules.specs.Order.{size_of, price_of, shares_of, terms_of, has_shares, is_simple};

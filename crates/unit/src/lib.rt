@@ -1,4 +1,6 @@
 // The entries for a host in C: numbers and slices in, every lent number set on every call.
+#![tactic(auto)]
+
 pub mod crossings;
 pub mod messages;
 pub mod orders;

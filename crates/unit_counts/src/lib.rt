@@ -1,4 +1,6 @@
 // The counts divided by their greatest common divisor.
+#![tactic(auto)]
+
 ghost use Rattle.std.specs.Prelude.{◌≡◌, List, map, ◌≤◌, length, take};
 ghost use Rattle.rules.specs.declared.Leg.{Leg};
 ghost use Rattle.rules.specs.Lists.{All};

@@ -1,4 +1,6 @@
 // The refusals of an order record: the first number that applies. Reading finds the first three.
+#![tactic(auto)]
+
 ghost use Rattle.std.specs.Prelude.{◌≡◌, ◌≤◌, length};
 ghost use Rattle.validity.specs.Orders.{Refuses};
 

@@ -1,4 +1,6 @@
 // The forms of the values of a message's fields, and the price that one says. Document 02, S-1.
+#![tactic(auto)]
+
 ghost use Rattle.std.specs.Prelude.{◌≡◌, true, ◌-◌, ◌*◌, ◌^◌, ◌≤◌, ◌<◌, length};
 ghost use Rattle.rules.specs.Order.{price_of};
 ghost use Rattle.rules.specs.Fix.{leading_digits, is_one_or_two, is_number, number_of};

@@ -1,5 +1,7 @@
 // One walk over legs that are listed latest walked first, each by its tag in the walk's sequence (crate `keys`). A signed
 // figure says what is open in the group being walked, bought less sold: it leads the search for a match.
+#![tactic(auto)]
+
 ghost use Rattle.std.specs.Prelude.{◌≡◌, true, ◌+◌, ◌<◌, get_or};
 ghost use Rattle.rules.specs.OpenContracts.{sign, shows_other};
 ghost use Rattle.keys.specs.Tags.{is_bought};

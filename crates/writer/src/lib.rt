@@ -1,4 +1,6 @@
 // The symbol writer.
+#![tactic(auto)]
+
 ghost use Rattle.std.specs.Prelude.{◌≡◌, ◌++◌, ◌≤◌, length, drop};
 ghost use Rattle.rules.specs.Symbol.{in_layout, write_symbol};
 ghost use Rattle.writer.specs.Writer.{Handed};
