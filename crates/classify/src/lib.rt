@@ -10,7 +10,7 @@ use pairing::both_walks;
 use shape::shape_of;
 use unit_counts::units;
 
-#[derive(Drop)]
+#[derive(Clone, Copy)]
 pub struct Classified {
     pub class: u64,
     pub shape: u64,

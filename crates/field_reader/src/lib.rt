@@ -8,7 +8,7 @@ ghost use Rattle.fields.specs.Fields.{field_at};
 use fields::{Field, next_field};
 
 // A message, and the position in it between two fields.
-#[derive(Drop)]
+#[derive(Clone, Copy)]
 pub struct FieldReader<'a> {
     pub message: &'a [u8],
     pub at: usize,

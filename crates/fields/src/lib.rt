@@ -8,7 +8,7 @@ ghost use Rattle.fields.specs.Steps.{no_tag, tag_at, ValueEnds};
 use amounts::{wide, within};
 
 // A field's tag, 0 for no field, the places of its value, and the place behind its byte 1.
-#[derive(Drop)]
+#[derive(Clone, Copy)]
 pub struct Field {
     pub tag: u64,
     pub start: usize,
@@ -17,7 +17,7 @@ pub struct Field {
 }
 
 // A tag's number, 0 for no tag, and the place of its =.
-#[derive(Drop)]
+#[derive(Clone, Copy)]
 struct Tag {
     number: u64,
     end: usize,

@@ -12,7 +12,7 @@ use fields::Field;
 use number_values::{is_number, number_said};
 
 // What the first three fields say: 8, 9 and 35.
-#[derive(Drop)]
+#[derive(Clone, Copy)]
 pub struct Head {
     // They are the frame's.
     pub right: bool,
@@ -25,7 +25,7 @@ pub struct Head {
 }
 
 // Where field 10 stands.
-#[derive(Drop)]
+#[derive(Clone, Copy)]
 pub struct Tail {
     // Field 10 was read.
     pub ended: bool,

@@ -8,7 +8,7 @@ use amounts::pick;
 use choice::{both, either, negated};
 
 // What was seen of the needed tags.
-#[derive(Drop)]
+#[derive(Clone, Copy)]
 pub struct Sequence {
     // 40, 44 and 555 were there.
     pub kind: bool,

@@ -17,7 +17,7 @@ use sorting::sort;
 use tagged::PairTally;
 use walk::walk;
 
-#[derive(Drop)]
+#[derive(Clone, Copy)]
 pub struct Paired {
     pub pairings: u64,
     // 1 debit, 2 credit, 0 undetermined.

@@ -13,7 +13,7 @@ use rules::{Market, Mills, Series, Settings};
 use series::series_of;
 
 // Root and series count only where the number is 0.
-#[derive(Drop)]
+#[derive(Clone, Copy)]
 pub struct QuoteRead {
     pub number: u64,
     pub root: u64,

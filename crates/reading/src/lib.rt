@@ -12,7 +12,7 @@ use root_number::root_of;
 use rules::RawLeg;
 
 // What reading an order's legs says beside the arrays.
-#[derive(Drop)]
+#[derive(Clone, Copy)]
 pub struct Read {
     // The first of refusals 3, 4 and 5 that applies, or 0.
     pub number: u64,

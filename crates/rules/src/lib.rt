@@ -2,15 +2,15 @@
 #![tactic(auto)]
 
 // A price, a strike or another amount of money, in thousandths of a dollar.
-#[derive(Drop)]
+#[derive(Clone, Copy)]
 pub struct Mills(pub u64);
 
 // A distance, as a number of ticks. A tick's size is in Mills.
-#[derive(Drop)]
+#[derive(Clone, Copy)]
 pub struct Ticks(pub u64);
 
 // The parts of an option symbol. Any value may stand in a field: what is in the layout is said by `in_layout`.
-#[derive(Drop)]
+#[derive(Clone, Copy)]
 pub struct SymbolParts {
     // The root's six bytes as one number, the first byte highest.
     pub root: u64,
@@ -23,7 +23,7 @@ pub struct SymbolParts {
 }
 
 // What the symbol reader answers: the number, and the parts where it is 0, else zeros.
-#[derive(Drop)]
+#[derive(Clone, Copy)]
 pub struct SymbolRead {
     pub number: u64,
     pub parts: SymbolParts,
@@ -31,7 +31,7 @@ pub struct SymbolRead {
 
 // One leg as it arrives: the count's size and side, and 21 symbol bytes, whatever they hold. A count of 0
 // in the host's slices is bought, of size 0.
-#[derive(Drop)]
+#[derive(Clone, Copy)]
 pub struct RawLeg {
     pub size: u64,
     pub bought: bool,
@@ -39,21 +39,21 @@ pub struct RawLeg {
 }
 
 // The price for one unit: paid, or received where it is negative. A size of 0 is zero either way.
-#[derive(Drop)]
+#[derive(Clone, Copy)]
 pub struct Price {
     pub received: bool,
     pub size: Mills,
 }
 
 // The shares attached to an order: the share count's size and side. A size of 0 is no shares, on either side.
-#[derive(Drop)]
+#[derive(Clone, Copy)]
 pub struct Shares {
     pub size: u64,
     pub bought: bool,
 }
 
 // What an order says beside its legs. Kind: 0 is limit, any other value market. Flags: 0 is no, any other value yes.
-#[derive(Drop)]
+#[derive(Clone, Copy)]
 pub struct Terms {
     pub price: Price,
     pub kind: u64,
@@ -64,7 +64,7 @@ pub struct Terms {
 }
 
 // An order record: up to 16 legs. A greater length is an input like any other.
-#[derive(Drop)]
+#[derive(Clone, Copy)]
 pub struct Order {
     pub legs: [RawLeg; 16],
     pub len: usize,
@@ -72,7 +72,7 @@ pub struct Order {
 }
 
 // An option series of one root: its type, its expiry as one number (year, month, day), and its strike.
-#[derive(Drop)]
+#[derive(Clone, Copy)]
 pub struct Series {
     pub call: bool,
     pub expiry: u64,
@@ -80,7 +80,7 @@ pub struct Series {
 }
 
 // A leg as read.
-#[derive(Drop)]
+#[derive(Clone, Copy)]
 pub struct Leg {
     pub root: u64,
     pub series: Series,
@@ -89,7 +89,7 @@ pub struct Leg {
 }
 
 // The exchange's settings. Switches and the last two: 0 is no, any other value yes.
-#[derive(Drop)]
+#[derive(Clone, Copy)]
 pub struct Settings {
     pub check20: u64,
     pub check21: u64,
@@ -118,7 +118,7 @@ pub struct Settings {
 
 // The market's values. Phase: 0 pre-opening, 1 open, 2 halt. Open elsewhere, extended hours: 0 is no, any other value
 // yes. Amounts: 0 is missing.
-#[derive(Drop)]
+#[derive(Clone, Copy)]
 pub struct Market {
     pub phase: u64,
     pub elsewhere: u64,
@@ -132,7 +132,7 @@ pub struct Market {
 }
 
 // What the order check answers. Class: 1 debit, 2 credit, 0 undetermined. Shape: 1 to 4, 0 other.
-#[derive(Drop)]
+#[derive(Clone, Copy)]
 pub struct OrderAnswer {
     pub number: u64,
     pub class: u64,
@@ -141,7 +141,7 @@ pub struct OrderAnswer {
 }
 
 // What the quote check answers. Cancel: 1 where the resting quote is to be cancelled, else 0.
-#[derive(Drop)]
+#[derive(Clone, Copy)]
 pub struct QuoteAnswer {
     pub number: u64,
     pub cancel: u64,
@@ -149,7 +149,7 @@ pub struct QuoteAnswer {
 
 // What a crossing quote gets beside its fills: the quote check's answer, and of its size the part that executes, the
 // part that is booked and the part that is cancelled.
-#[derive(Drop)]
+#[derive(Clone, Copy)]
 pub struct CrossingAnswer {
     pub number: u64,
     pub cancel: u64,
@@ -159,7 +159,7 @@ pub struct CrossingAnswer {
 }
 
 // A tally of order checks.
-#[derive(Drop)]
+#[derive(Clone, Copy)]
 pub struct Tally {
     pub seen: u64,
     pub refused: u64,
@@ -168,14 +168,14 @@ pub struct Tally {
 }
 
 // What the tallied check answers, and the tally after it.
-#[derive(Drop)]
+#[derive(Clone, Copy)]
 pub struct TalliedAnswer {
     pub answer: OrderAnswer,
     pub tally: Tally,
 }
 
 // A login of a session: its limit of rejections, its tally, and its rejections since the start or its last release.
-#[derive(Drop)]
+#[derive(Clone, Copy)]
 pub struct Login {
     pub limit: u64,
     pub tally: Tally,
@@ -183,14 +183,14 @@ pub struct Login {
 }
 
 // One order of a pair: its own number, and 1 where it passes, else 0.
-#[derive(Drop)]
+#[derive(Clone, Copy)]
 pub struct PairSide {
     pub number: u64,
     pub passes: u64,
 }
 
 // What the check on a pair answers.
-#[derive(Drop)]
+#[derive(Clone, Copy)]
 pub struct PairAnswer {
     pub agency: PairSide,
     pub contra: PairSide,

@@ -17,7 +17,7 @@ use number_values::{is_one, number_said};
 use values::has_form;
 
 // Where the values stand that the order is made of.
-#[derive(Drop)]
+#[derive(Clone, Copy)]
 pub struct Places {
     // 40 says market.
     pub market: bool,
@@ -30,7 +30,7 @@ pub struct Places {
 }
 
 // What the fields so far say.
-#[derive(Drop)]
+#[derive(Clone, Copy)]
 pub struct Scan {
     // The place behind the last field.
     pub next: usize,

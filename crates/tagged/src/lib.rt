@@ -3,7 +3,7 @@
 #![tactic(auto)]
 
 // What is known of the pairs: their number, and whether one was a debit or a credit.
-#[derive(Drop)]
+#[derive(Clone, Copy)]
 pub struct PairTally {
     pub pairs: u64,
     pub debit: bool,
@@ -11,7 +11,7 @@ pub struct PairTally {
 }
 
 // What is known after a leg: the pairs of each class, and of the group being walked the open contracts, bought less sold.
-#[derive(Drop)]
+#[derive(Clone, Copy)]
 pub struct Step {
     pub debits: u64,
     pub credits: u64,
