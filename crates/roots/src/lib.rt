@@ -20,6 +20,7 @@ fn is_letter_or_digit(b: u8) -> bool
 }
 
 // From the last byte to the first: whether what follows is spaces, and whether it can end a root.
+#[tactic(auto, unfolding(rules::specs::Symbol::is_root, rules::specs::Symbol::is_root_tail, rules::specs::Symbol::are_spaces))]
 pub fn is_root(b0: u8, b1: u8, b2: u8, b3: u8, b4: u8, b5: u8) -> bool
     ensures { result ≡ is_root (b0 ∷ b1 ∷ b2 ∷ b3 ∷ b4 ∷ b5 ∷ []) }
 {
