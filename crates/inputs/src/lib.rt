@@ -35,6 +35,7 @@ fn settings_from(n: &[u64]) -> Settings
 }
 
 // Another number of settings has none within its limits.
+#[tactic(auto, using(rules::proofs::Handed::settings_whole, rules::proofs::Handed::settings_other))]
 pub fn settings_of(n: &[u64]) -> Settings
     ensures { result ≡ settings_of n.now }
 {
@@ -62,6 +63,7 @@ fn market_from(n: &[u64]) -> Market
 }
 
 // Another number of values is no market: no phase is 3.
+#[tactic(auto, using(rules::proofs::Handed::market_whole, rules::proofs::Handed::market_other))]
 pub fn market_of(n: &[u64]) -> Market
     ensures { result ≡ market_of n.now }
 {
