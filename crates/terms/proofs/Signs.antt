@@ -73,6 +73,10 @@ sign p f = go (lt_z (held p) (pos 0)) refl
     go true h = sym (ap is_below_zero (negative p f h).is)
     go false h = sym (ap is_below_zero (not_negative p f h).is)
 
+-- the size of what a local holds
+pub size_held : (p : ℤ) → SFits w64 p → size_of (held p) ≡ size_of p
+size_held p f = ap size_of (to_z-of_z w64 p f)
+
 -- ---- the records, from their fields
 
 pub priced : (z : ℤ) {received : Bool} {size : ℕ} → received ≡ is_below_zero z → size ≡ size_of z → record { received = received; size = record { 0 = size } } ≡ price_of z

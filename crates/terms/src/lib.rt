@@ -22,6 +22,7 @@ fn size_of(z: i64) -> u64
 }
 
 // The price's sign and size.
+#[tactic(auto, using(crate::proofs::Signs::priced, crate::proofs::Signs::sign, crate::proofs::Signs::size_held), unfolding(rules::specs::Order::price_of))]
 pub fn price_of(price: i64) -> Price
     ensures { result ≡ price_of price }
 {
@@ -33,6 +34,7 @@ pub fn price_of(price: i64) -> Price
 }
 
 // The share count's side and size.
+#[tactic(auto, using(crate::proofs::Signs::shared, crate::proofs::Signs::sign, crate::proofs::Signs::size_held), unfolding(rules::specs::Order::shares_of))]
 pub fn shares_of(shares: i64) -> Shares
     ensures { result ≡ shares_of shares }
 {
@@ -72,6 +74,7 @@ pub fn is_negative(p: Price) -> bool
 }
 
 // Whether shares are attached.
+#[tactic(auto, unfolding(rules::specs::Order::has_shares))]
 pub fn has_shares(t: Terms) -> bool
     ensures { result ≡ has_shares t }
 {
@@ -79,6 +82,7 @@ pub fn has_shares(t: Terms) -> bool
 }
 
 // Whether an order of so many legs is simple. It is complex otherwise.
+#[tactic(auto, unfolding(rules::specs::Order::is_simple))]
 pub fn is_simple(t: Terms, legs: usize) -> bool
     ensures { (ls : List Leg) → length ls ≡ legs → result ≡ is_simple t ls }
 {
