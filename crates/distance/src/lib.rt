@@ -14,6 +14,7 @@ fn pick_ticks(c: bool, x: Ticks, y: Ticks) -> Ticks
 }
 
 // The acceptable tick distance of the reference's band.
+#[tactic(auto, unfolding(rules::specs::Market::acceptable_ticks))]
 pub fn acceptable_ticks(st: Settings, r: Mills) -> Ticks
     ensures { result ≡ acceptable_ticks st r }
 {
@@ -28,6 +29,7 @@ pub fn acceptable_ticks(st: Settings, r: Mills) -> Ticks
     )
 }
 
+#[tactic(auto, unfolding(rules::specs::Market::tick_at))]
 pub fn tick_at(st: Settings, r: Mills) -> Mills
     ensures { result ≡ tick_at st r }
 {
@@ -35,6 +37,7 @@ pub fn tick_at(st: Settings, r: Mills) -> Mills
 }
 
 // A distance as a price. This is the only place where ticks become mills; the bounds are those of the settings.
+#[tactic(auto, unfolding(rules::specs::Quantities::distance))]
 pub fn distance(ticks: Ticks, tick: Mills) -> Mills
     requires { (ticks.0 ≤ 1000) × (tick.0 ≤ 1000) }
     ensures { result ≡ distance ticks tick }
