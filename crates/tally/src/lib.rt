@@ -11,6 +11,7 @@ use choice::{either, negated};
 use rules::{OrderAnswer, TalliedAnswer, Tally};
 
 // Not the sum of its parts. The three together might not fit a word, so they are taken from what was seen.
+#[tactic(auto, unfolding(rules::specs::Tally::is_broken))]
 pub fn is_broken(t: Tally) -> bool
     ensures { result ≡ is_broken t }
 {
@@ -25,6 +26,7 @@ pub fn is_broken(t: Tally) -> bool
 }
 
 // Full, or broken.
+#[tactic(auto, unfolding(rules::specs::Tally::is_bad_tally))]
 fn is_bad_tally(t: Tally) -> bool
     ensures { result ≡ is_bad_tally t }
 {
@@ -47,6 +49,7 @@ pub fn is_rejected(number: u64) -> bool
 }
 
 // One more seen, and one more of the number's kind.
+#[tactic(auto, unfolding(rules::specs::Tally::is_bad_tally, rules::specs::Tally::is_broken, rules::specs::Tally::counted))]
 pub fn counted(t: Tally, number: u64) -> Tally
     requires { is_bad_tally t ≡ false }
     ensures { result ≡ counted t number }
@@ -62,6 +65,7 @@ pub fn counted(t: Tally, number: u64) -> Tally
 }
 
 // The answer, counted. A tally that is full, or not the sum of its parts, stays as it came.
+#[tactic(auto, unfolding(rules::specs::Tally::tallied))]
 pub fn tallied(tally: Tally, answer: OrderAnswer) -> TalliedAnswer
     ensures { result ≡ tallied tally answer }
 {
