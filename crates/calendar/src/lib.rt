@@ -9,12 +9,14 @@ use choice::both;
 
 const MONTH_LENGTHS: [u64; 12] = [31, 28, 31, 30, 31, 30, 31, 31, 30, 31, 30, 31];
 
+#[tactic(auto, unfolding(rules::specs::Symbol::leap_day))]
 fn leap_day(year: u64, month: u64) -> u64
     ensures { result ≡ leap_day year month }
 {
     pick(both(month == 2, year % 4 == 0), 1, 0)
 }
 
+#[tactic(auto, unfolding(rules::specs::Symbol::days_in), using(rules::proofs::Symbols::month_small, rules::proofs::Symbols::leap_small))]
 fn days_in(year: u64, month: u64) -> u64
     requires { (1 ≤ month) × (month ≤ 12) }
     ensures { result ≡ days_in year month }
@@ -23,6 +25,7 @@ fn days_in(year: u64, month: u64) -> u64
     MONTH_LENGTHS[i] + leap_day(year, month)
 }
 
+#[tactic(auto, unfolding(rules::specs::Symbol::day_exists), using(crate::proofs::Laws::early_day, crate::proofs::Laws::no_month_below, crate::proofs::Laws::no_month_above))]
 pub fn day_exists(year: u64, month: u64, day: u64) -> bool
     ensures { result ≡ day_exists year month day }
 {

@@ -8,6 +8,7 @@ ghost use Rattle.rules.specs.Numerals.{value, are_digits};
 use amounts::wide;
 
 // Whether the bytes from `at` up to `to` are digits.
+#[tactic(auto, unfolding(rules::specs::Numerals::are_digits), using(crate::proofs::Parts::part_low, crate::proofs::Parts::part_high, crate::proofs::Parts::part_pass, crate::proofs::Parts::part_end))]
 pub fn are_digits(s: &[u8], at: usize, to: usize) -> bool
     requires { (at ≤ to) × (to ≤ length s.now) }
     ensures { result ≡ are_digits 10 48 (slice at to s.now) }
