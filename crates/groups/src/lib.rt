@@ -21,6 +21,7 @@ pub struct Sequence {
 }
 
 // The tag that is due where so many fields of the groups are left.
+#[tactic(auto, unfolding(crate::specs::Sequence::due_tag))]
 fn due_tag(left: u64) -> u64
     ensures { result ≡ due_tag left }
 {
@@ -29,6 +30,7 @@ fn due_tag(left: u64) -> u64
 }
 
 // A tag among the groups.
+#[tactic(auto, unfolding(crate::specs::Sequence::among))]
 fn among(q: Sequence, tag: u64) -> Sequence
     requires { 0 < q.left }
     ensures { result ≡ among q tag }
@@ -43,6 +45,7 @@ fn among(q: Sequence, tag: u64) -> Sequence
 }
 
 // A tag outside the groups. Most are further tags, which change nothing.
+#[tactic(auto, using(crate::proofs::Laws::kind_outside, crate::proofs::Laws::price_outside, crate::proofs::Laws::legs_outside, crate::proofs::Laws::group_outside, crate::proofs::Laws::further_outside))]
 fn outside(q: Sequence, tag: u64, legs: u64) -> Sequence
     requires { (q.left ≡ 0) × (legs < 1000000000000000) }
     ensures { result ≡ outside q tag legs }
@@ -81,6 +84,7 @@ fn outside(q: Sequence, tag: u64, legs: u64) -> Sequence
 }
 
 // The next tag; `legs` is the number of groups where it is 555.
+#[tactic(auto, unfolding(crate::specs::Sequence::sequence_step))]
 pub fn sequence_step(q: Sequence, tag: u64, legs: u64) -> Sequence
     requires { legs < 1000000000000000 }
     ensures { result ≡ sequence_step q tag legs }
@@ -92,6 +96,7 @@ pub fn sequence_step(q: Sequence, tag: u64, legs: u64) -> Sequence
 }
 
 // Whether every needed tag was there once, and in its place.
+#[tactic(auto, unfolding(crate::specs::Sequence::is_complete))]
 pub fn is_complete(q: Sequence) -> bool
     ensures { result ≡ is_complete q }
 {
