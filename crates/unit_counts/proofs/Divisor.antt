@@ -52,6 +52,10 @@ module _ (sizes : List ℕ) (n : ℕ) (fits : n ≤ length sizes) where
   pub divisor_read : (d : ℕ) → d ≡ divisor_of (take n sizes) → (ls : List Leg) → sizes_of ls ≡ take n sizes → d ≡ common_divisor ls
   divisor_read d h ls e = h ∙ sym (of_legs_lem ls ∙ ap divisor_of e)
 
+  -- a divisor of 1 before the last leg looked at is that of all
+  pub one_read : (i j d e : ℕ) → j ≡ i + 1 → i < n → d ≡ divisor_of (drop j (take n sizes)) → e ≡ gcd (get_or sizes i 0) d → e ≡ 1 → (ls : List Leg) → sizes_of ls ≡ take n sizes → 1 ≡ common_divisor ls
+  one_read i j d e a h k m o = divisor_read 1 (sym (one_of_all (take n sizes) i (sym (divisor_turn i d e h (rw (← a) k) m) ∙ o)))
+
 -- a leg of some count
 abbrev leg_of_size : ℕ → Leg
 leg_of_size s = record { root = 0; series = record { call = false; expiry = 0; strike = record { 0 = 0 } }; bought = false; size = s }
