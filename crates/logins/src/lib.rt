@@ -11,6 +11,7 @@ use rules::{Login, Tally};
 use tally::{counted, is_broken, is_rejected, one_more};
 
 // Reads a login from its six places.
+#[tactic(auto, unfolding(rules::specs::Session::login_at))]
 pub fn login_at(session: &[u64], i: usize) -> Login
     requires { (i < 32) × (length session.now ≡ 192) }
     ensures { result ≡ login_at session.now i }
@@ -29,6 +30,7 @@ pub fn login_at(session: &[u64], i: usize) -> Login
 }
 
 // Stores a login in its six places; the others stay.
+#[tactic(auto, using(crate::proofs::Laws::stored_login))]
 pub fn place_login(session: &mut [u64], i: usize, l: Login)
     requires { (i < 32) × (length session.old ≡ 192) }
     ensures { session.new ≡ with_login session.old i l }
@@ -50,6 +52,7 @@ pub fn is_limit(n: u64) -> bool
 }
 
 // Whether a login's numbers cannot be those of a session that was started. Ends at the first that is wrong.
+#[tactic(auto, unfolding(rules::specs::Session::is_bad_login))]
 pub fn is_bad_login(l: Login) -> bool
     ensures { result ≡ is_bad_login l }
 {
