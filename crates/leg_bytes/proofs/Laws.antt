@@ -1,12 +1,12 @@
 -- A leg's bytes, as the code reads them.
-use mathlib.Core.Path.{◌≡◌, ap}
+use mathlib.Core.Path.{◌≡◌, ap, sym, ◌∙◌}
 use mathlib.Core.List.{List, [], ◌∷◌}
 use mathlib.Core.Bool.{true, false}
 use Prim.Native.Nat.{ℕ, ◌+◌, ◌-◌, ◌*◌, ◌^◌, ◌<◌, ◌≤◌}
 use native.Mathlib.Omega.{arith}
 use native.Mathlib.Numerals.{add-one}
 use lib.ListN.{length, take, get_or, set}
-use lib.Seq.{take-suc, take-suc-set}
+use lib.Seq.{take-suc, take-suc-set, take_all}
 use borrow.Author.Tests.{lt-ltb, le-ltb}
 use Rattle.rules.specs.Order.{word, raw_leg}
 use Rattle.rules.proofs.Slices.{whole_bytes}
@@ -14,6 +14,10 @@ use Rattle.rules.proofs.Slices.{whole_bytes}
 -- one byte more is copied
 pub copied : (copy s : List ℕ) (i : ℕ) → i < length copy → i < length s → take i copy ≡ take i s → take (i + 1) (set copy i (get_or s i 0)) ≡ take (i + 1) s
 copied copy s i h k e = rw (add-one, take-suc-set copy i (get_or s i 0) h, take-suc s i 0 k, e)
+
+-- all bytes are copied
+pub all_copied : (copy s : List ℕ) (i : ℕ) → take i copy ≡ take i s → length copy ≤ i → length s ≤ i → copy ≡ s
+all_copied copy s i e h k = sym (take_all i copy h) ∙ e ∙ take_all i s k
 
 -- a count of 8 bytes, by its halves
 pub word_read : (s : List ℕ) → length s ≡ 8 →

@@ -8,6 +8,7 @@ use amounts::wide;
 use rules::RawLeg;
 
 // Four bytes as a number, the low one first.
+#[tactic(auto, unfolding(rules::specs::Order::word))]
 fn half(b0: u8, b1: u8, b2: u8, b3: u8) -> u64
     ensures { (result ≡ word (b0 ∷ b1 ∷ b2 ∷ b3 ∷ [])) × (result < 4294967296) }
 {
@@ -15,6 +16,7 @@ fn half(b0: u8, b1: u8, b2: u8, b3: u8) -> u64
 }
 
 // The count's 8 bytes as one number, the low byte first.
+#[tactic(auto, using(crate::proofs::Laws::word_read))]
 fn word(count: &[u8]) -> u64
     requires { length count.now ≡ 8 }
     ensures { result ≡ word count.now }
@@ -25,6 +27,7 @@ fn word(count: &[u8]) -> u64
 }
 
 // A copy of the symbol's bytes, for the leg to keep.
+#[tactic(auto, using(crate::proofs::Laws::copied, crate::proofs::Laws::all_copied))]
 pub fn bytes_of(symbol: &[u8]) -> [u8; 21]
     requires { length symbol.now ≡ 21 }
     ensures { result ≡ symbol.now }
@@ -39,6 +42,7 @@ pub fn bytes_of(symbol: &[u8]) -> [u8; 21]
 }
 
 // One leg. A count from 2^63 up stands for a negative one, whose size is what is missing to 2^64.
+#[tactic(auto, using(crate::proofs::Laws::bought, crate::proofs::Laws::sold))]
 pub fn raw_leg(symbol: &[u8], count: &[u8]) -> RawLeg
     requires { (length symbol.now ≡ 21) × (length count.now ≡ 8) }
     ensures { result ≡ raw_leg symbol.now count.now }
