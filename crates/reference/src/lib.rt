@@ -32,6 +32,7 @@ fn is_nbbo_unusable(nbb: Mills, nbo: Mills) -> bool
     either(either(locked, crossed), both(no_bid, no_offer))
 }
 
+#[tactic(auto, unfolding(rules::specs::Market::is_unusable))]
 pub fn is_unusable(m: Market) -> bool
     ensures { result ≡ is_unusable m }
 {
@@ -59,6 +60,7 @@ fn elsewhere_reference(
     )
 }
 
+#[tactic(auto, unfolding(rules::specs::Market::reference, rules::specs::Market::elsewhere_reference, rules::specs::Market::is_unusable))]
 pub fn reference(bought: bool, m: Market) -> Mills
     ensures { result ≡ reference bought m }
 {

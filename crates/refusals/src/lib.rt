@@ -11,6 +11,7 @@ use rules::Terms;
 use terms::{is_negative, is_positive, is_simple};
 
 // A simple order has one leg, and `bought` is its side; of a complex one no sign is asked.
+#[tactic(auto, using(crate::proofs::Laws::price_of_one))]
 pub fn is_bad_price(t: Terms, bought: bool, legs: usize) -> bool
     ensures { (ls : List Leg) → length ls ≡ legs → (legs ≡ 1 → (get_or ls 0 no_leg).bought ≡ bought) → result ≡ is_bad_price t ls }
 {
@@ -19,6 +20,7 @@ pub fn is_bad_price(t: Terms, bought: bool, legs: usize) -> bool
     either(1000000000000 < t.price.size.0, both(simple, negated(sign)))
 }
 
+#[tactic(auto, unfolding(rules::specs::Numbers::is_bad_shares))]
 pub fn is_bad_shares(t: Terms) -> bool
     ensures { result ≡ is_bad_shares t }
 {
