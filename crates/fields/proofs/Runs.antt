@@ -41,3 +41,14 @@ module _ {m : List ℕ} {at i : ℕ} (s : Same m at i) where
   pub never_ends : i ≡ length m → ValueEnds m at i
   unfolding run
   never_ends e = let r : run in_value (drop i m) ≡ 0 = rw (e, drop-length m) in record { place = omega (arith, s.end); inside = s.inside }
+
+-- the same of the bytes behind, where those before are passed
+module _ {m : List ℕ} {at i : ℕ} (s : Same m at i) where
+  pub ends_second : i + 1 < length m → (get_or m i 0 ≡ 1 → ⊥) → get_or m (i + 1) 0 ≡ 1 → ValueEnds m at (i + 1)
+  ends_second h x0 x1 = ends_here (passes s (omega arith) x0) h x1
+
+  pub ends_third : i + 1 + 1 < length m → (get_or m i 0 ≡ 1 → ⊥) → (get_or m (i + 1) 0 ≡ 1 → ⊥) → get_or m (i + 1 + 1) 0 ≡ 1 → ValueEnds m at (i + 1 + 1)
+  ends_third h x0 x1 x2 = ends_here (passes (passes s (omega arith) x0) (omega arith) x1) h x2
+
+  pub ends_fourth : i + 1 + 1 + 1 < length m → (get_or m i 0 ≡ 1 → ⊥) → (get_or m (i + 1) 0 ≡ 1 → ⊥) → (get_or m (i + 1 + 1) 0 ≡ 1 → ⊥) → get_or m (i + 1 + 1 + 1) 0 ≡ 1 → ValueEnds m at (i + 1 + 1 + 1)
+  ends_fourth h x0 x1 x2 x3 = ends_here (passes (passes (passes s (omega arith) x0) (omega arith) x1) (omega arith) x2) h x3

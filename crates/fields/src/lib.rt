@@ -62,6 +62,7 @@ fn ten_behind(at: usize, n: usize) -> usize
 }
 
 // The tag at the place `at`: a digit that is not 0, up to eight more, and =.
+#[tactic(auto, using(crate::proofs::Tags::read_below, crate::proofs::Tags::starts, crate::proofs::Tags::turn, crate::proofs::Tags::stops, crate::proofs::Tags::none_ends, crate::proofs::Tags::none_first, crate::proofs::Tags::none_past, rules::proofs::Tests::within_both))]
 fn tag_at(message: &[u8], at: usize) -> Tag
     ensures { result ≡ tag_at message.now at }
 {
@@ -87,6 +88,7 @@ fn tag_at(message: &[u8], at: usize) -> Tag
 }
 
 // The place of the first byte 1 from `at` on, or the end: a byte at a turn.
+#[tactic(auto, using(crate::proofs::Runs::passes, crate::proofs::Runs::ends_here, crate::proofs::Runs::never_ends))]
 fn value_end_near(message: &[u8], at: usize) -> usize
     requires { at ≤ length message.now }
     ensures { ValueEnds message.now at result }
@@ -102,6 +104,7 @@ fn value_end_near(message: &[u8], at: usize) -> usize
 }
 
 // The same, four bytes at a turn as long as there are four: most bytes of a message are passed so.
+#[tactic(auto, using(crate::proofs::Runs::passes, crate::proofs::Runs::ends_here, crate::proofs::Runs::ends_second, crate::proofs::Runs::ends_third, crate::proofs::Runs::ends_fourth))]
 fn value_end(message: &[u8], at: usize) -> usize
     requires { at ≤ length message.now }
     ensures { ValueEnds message.now at result }
@@ -129,6 +132,7 @@ fn value_end(message: &[u8], at: usize) -> usize
 }
 
 // The field at the place `at`.
+#[tactic(auto, using(crate::proofs::Reading::no_tag_lem, crate::proofs::Reading::tagged, crate::proofs::Reading::start_inside, crate::proofs::Reading::no_end, crate::proofs::Reading::whole))]
 pub fn next_field(message: &[u8], at: usize) -> Field
     ensures { result ≡ field_at message.now at }
 {
