@@ -46,6 +46,7 @@ pub fn group_of(tag: u64) -> u64
 
 // The tag of the second walk, from that of the first. Of one strike the nearest expiry, which is walked last, has the
 // least.
+#[tactic(auto, using(crate::proofs::Keys::side_says), unfolding(crate::specs::Tags::series_at))]
 pub fn second_tag(tag: u64) -> u64
     requires { tag < 40000000000000000 }
     ensures { (result ≡ second_tag tag) × (result < 40000000000000000) }
@@ -62,6 +63,7 @@ pub fn second_tag(tag: u64) -> u64
 }
 
 // The leg of a tag of the first walk. No check asks for its root.
+#[tactic(auto, unfolding(crate::specs::Tags::series_at))]
 pub fn leg_at(tag: u64, size: u64) -> Leg
     ensures { result ≡ leg_at 0 false tag size }
 {
