@@ -6,9 +6,9 @@ ghost use Rattle.std.specs.Prelude.{◌≡◌};
 ghost use Rattle.rules.specs.Numbers.{check_slices};
 ghost use Rattle.rules.specs.Examples.{example_settings, example_market, example_terms};
 
-use libc::STDOUT_FILENO;
 use order_check::check_slices;
 use rules::OrderAnswer;
+use std::io;
 use terms::terms_of;
 
 // Every check on, ticks and net increment of a cent, ATDs of 5, 3 percent between presets of 0 and 0.60, 4 set ticks.
@@ -27,59 +27,57 @@ fn answer_to(symbols: &[u8], counts: &[u8], price: i64) -> OrderAnswer
     check_slices(symbols, counts, terms, &SETTINGS, &MARKET)
 }
 
-fn print_number(words: &[u8], number: u64) {
-    io::write_all(STDOUT_FILENO, words);
-    io::print_decimal(STDOUT_FILENO, number);
-}
-
-fn show(case: &[u8], symbols: &[u8], counts: &[u8], price: i64) {
+fn show<P: Print>(rt: &P, case: &str, symbols: &[u8], counts: &[u8], price: i64) -> io::Result<()> {
     let answer = answer_to(symbols, counts, price);
-    io::write_all(STDOUT_FILENO, case);
-    print_number(b": number ", answer.number);
-    print_number(b", class ", answer.class);
-    print_number(b", shape ", answer.shape);
-    print_number(b", pairings ", answer.pairings);
-    io::write_all(STDOUT_FILENO, b"\n");
+    let number = answer.number;
+    let class = answer.class;
+    let shape = answer.shape;
+    let pairings = answer.pairings;
+    println!(rt; "{case}: number {number}, class {class}, shape {shape}, pairings {pairings}")
 }
 
 // Counts are 8 bytes each, two's complement, the low byte first.
-fn show_butterfly(case: &[u8], price: i64) {
+fn show_butterfly<P: Print>(rt: &P, case: &str, price: i64) -> io::Result<()> {
     show(
+        rt,
         case,
         b"XYZ   270115C00020000XYZ   270115C00030000XYZ   270115C00040000",
         b"\xfb\xff\xff\xff\xff\xff\xff\xff\x0a\0\0\0\0\0\0\0\xfb\xff\xff\xff\xff\xff\xff\xff",
         price,
-    );
+    )
 }
 
-fn show_sold(case: &[u8], price: i64) {
+fn show_sold<P: Print>(rt: &P, case: &str, price: i64) -> io::Result<()> {
     show(
+        rt,
         case,
         b"XYZ   270115C00045000XYZ   270115C00050000",
         b"\xff\xff\xff\xff\xff\xff\xff\xff\xff\xff\xff\xff\xff\xff\xff\xff",
         price,
-    );
+    )
 }
 
-fn show_calendar(case: &[u8], price: i64) {
+fn show_calendar<P: Print>(rt: &P, case: &str, price: i64) -> io::Result<()> {
     show(
+        rt,
         case,
         b"XYZ   270319C00020000XYZ   270618C00020000XYZ   270917C00020000",
         b"\x01\0\0\0\0\0\0\0\xff\xff\xff\xff\xff\xff\xff\xff\x01\0\0\0\0\0\0\0",
         price,
-    );
+    )
 }
 
-fn main() {
-    show_butterfly(b"T1, a butterfly sold that pays 15.00", 15000);
-    show_butterfly(b"the same, and 15.00 are received", -15000);
-    show_butterfly(b"the same, and 10.00 are received", -10000);
-    show_sold(b"T7, two calls sold for 0.020", -20);
-    show_sold(b"T7, two calls sold for 0.019", -19);
+fn main(rt: HostRuntime) -> io::Result<()> {
+    show_butterfly(&rt, "T1, a butterfly sold that pays 15.00", 15000)?;
+    show_butterfly(&rt, "the same, and 15.00 are received", -15000)?;
+    show_butterfly(&rt, "the same, and 10.00 are received", -10000)?;
+    show_sold(&rt, "T7, two calls sold for 0.020", -20)?;
+    show_sold(&rt, "T7, two calls sold for 0.019", -19)?;
     show_calendar(
-        b"T10, March and September bought and June sold, for 1.00",
+        &rt,
+        "T10, March and September bought and June sold, for 1.00",
         1000,
-    );
-    show_calendar(b"the same, and 1.00 is received", -1000);
-    show(b"no leg", b"", b"", 1000);
+    )?;
+    show_calendar(&rt, "the same, and 1.00 is received", -1000)?;
+    show(&rt, "no leg", b"", b"", 1000)
 }
