@@ -1,15 +1,15 @@
--- What turns a call away, as the code tests it; and a release by that number.
+-- What turns a call away, as the code tests it; and what is known where nothing does.
 use mathlib.Core.Path.{◌≡◌, refl, sym, ap, ◌∙◌}
 use mathlib.Core.List.{List}
 use mathlib.Core.Bool.{Bool, true, false, cond, ◌&&◌}
-use Prim.Native.Nat.{ℕ, zero, suc, ◌≤◌, ◌<◌}
+use Prim.Native.Nat.{ℕ, ◌≤◌, ◌<◌}
 use native.Mathlib.Omega.{arith}
 use lib.Dec.{leb}
 use lib.ListN.{length}
 use borrow.Author.Tests.{ne_eqb}
 use Rattle.rules.specs.declared.Login.{Login}
 use Rattle.rules.specs.Tally.{is_bad_tally}
-use Rattle.rules.specs.Session.{login_at, with_login, is_bad_session, is_restricted, gets_twelve, turned_away, counted_login, released_login, release_login}
+use Rattle.rules.specs.Session.{login_at, is_bad_session, is_restricted, gets_twelve, turned_away}
 use Rattle.rules.proofs.Turning.{gets_12, gets_35, admitted, good, good_login, countable}
 
 module _ (is_order : Bool) (s : List ℕ) (i : ℕ) (here : i ≤ 31) where
@@ -38,15 +38,6 @@ pub placed : (is_order : Bool) (s : List ℕ) (i : ℕ) → turned_away is_order
 placed is_order s i h = let a = admitted is_order s i h in let b = a.here in (omega arith, (good s a.good).whole)
 
 module _ (s : List ℕ) (i : ℕ) where
-  pub release_turned : {n : ℕ} → n ≡ turned_away false s i → (n ≡ 0 → ⊥) → (n ≡ (release_login s i).number) × (s ≡ (release_login s i).session)
-  unfolding release_login
-  release_turned {n = zero} e h = absurd (h refl)
-  release_turned {n = suc n} e h = rw (sym e) (refl, refl)
-
-  pub release_done : turned_away false s i ≡ 0 → {l m : Login} {t : List ℕ} → l ≡ login_at s i → m ≡ released_login l → t ≡ with_login s i m → (0 ≡ (release_login s i).number) × (t ≡ (release_login s i).session)
-  unfolding release_login
-  release_done h read e f = rw h (refl, f ∙ ap (with_login s i) (e ∙ ap released_login read))
-
   -- an order that nothing turns away
   module _ {l : Login} (read : l ≡ login_at s i) where
     pub countable_login : turned_away true s i ≡ 0 → (is_bad_tally l.tally ≡ false) × (l.running ≤ 10000)
@@ -57,6 +48,3 @@ module _ (s : List ℕ) (i : ℕ) where
         let limited = g.limited in
         let running : l.running ≡ (login_at s i).running = ap (λ (l : Login). l.running) read in
         (ap (λ (l : Login). is_bad_tally l.tally) read ∙ countable s i a, omega (arith, running))
-
-    pub counted_order : (n : ℕ) {m : Login} {t : List ℕ} → m ≡ counted_login l n → t ≡ with_login s i m → t ≡ with_login s i (counted_login (login_at s i) n)
-    counted_order n e f = f ∙ ap (with_login s i) (e ∙ ap (λ (l : Login). counted_login l n) read)

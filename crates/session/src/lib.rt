@@ -21,6 +21,7 @@ fn left_of(room: u64, taken: u64) -> u64
 // Some login is bad; or, to an order, there is no room for one more: how many the session may still tally. What all
 // logins have seen might not fit a word, so it is taken from the room that a session begins with. Where an order finds
 // none, the other logins make no difference.
+#[tactic(auto, using(crate::proofs::Survey::surveyed_bad, crate::proofs::Survey::surveyed_full))]
 fn gets_twelve(is_order: bool, session: &[u64]) -> bool
     requires { length session.now ≡ 192 }
     ensures { result ≡ gets_twelve is_order session.now }
@@ -42,6 +43,7 @@ fn gets_twelve(is_order: bool, session: &[u64]) -> bool
 }
 
 // The number that turns away an order of a login, or its release; 0 where none does.
+#[tactic(auto, using(rules::proofs::Turning::gets_34, crate::proofs::Turned::other_length, crate::proofs::Turned::tested))]
 pub fn turned_away(is_order: bool, session: &[u64], login: u64) -> u64
     ensures { result ≡ turned_away is_order session.now login }
 {
@@ -58,6 +60,7 @@ pub fn turned_away(is_order: bool, session: &[u64], login: u64) -> u64
 }
 
 // Counts an order that was not turned away, by the number that it got.
+#[tactic(auto, using(crate::proofs::Turned::placed))]
 pub fn count_order(session: &mut [u64], login: u64, number: u64)
     requires { turned_away true session.old login ≡ 0 }
     ensures { session.new ≡ with_login session.old login (counted_login (login_at session.old login) number) }
@@ -68,6 +71,7 @@ pub fn count_order(session: &mut [u64], login: u64, number: u64)
 }
 
 // Releases a login: its running number alone becomes 0.
+#[tactic(auto, using(crate::proofs::Turned::placed), unfolding(rules::specs::Session::release_login))]
 pub fn release(session: &mut [u64], login: u64) -> u64
     ensures value { result ≡ (release_login session.old login).number }
     ensures session_after { session.new ≡ (release_login session.old login).session }
