@@ -2,7 +2,7 @@
 use native.Mathlib.Omega.{arith}
 use mathlib.Core.Path.{◌≡◌, refl, sym, ap, ◌∙◌}
 use mathlib.Core.Logic.{⊎_elim}
-use mathlib.Core.List.{List, ◌++◌}
+use mathlib.Core.List.{List, [], ◌∷◌, ◌++◌}
 use mathlib.Core.Bool.{Bool, true, false, cond, ◌&&◌}
 use Prim.Native.Nat.{ℕ, ◌+◌, ◌-◌, ◌%◌, ◌≤◌}
 use lib.ListN.{length, get_or}
@@ -59,6 +59,33 @@ module _ (s : List ℕ) (long : length s ≡ 21) where
       → read_symbol s ≡ cond (b && in_limits (parts_of s)) (record { number = 0; parts = parts_of s }) (refused_read 4)
   unfolding read_symbol is_symbol
   read_tested b h = rw (long, h)
+
+  -- what the first test that fails answers
+  pub root_wrong : is_root (bytes_at 6 0 s) ≡ false → read_symbol s ≡ refused_read 4
+  root_wrong h = read_tested false (rw (root_bytes, h))
+
+  pub expiry_wrong : is_root (slice 0 6 s) ≡ true → are_digits 10 48 (slice 6 12 s) ≡ false → read_symbol s ≡ refused_read 4
+  expiry_wrong h k = read_tested false (rw (h, k))
+
+  pub strike_wrong : is_root (slice 0 6 s) ≡ true → are_digits 10 48 (slice 6 12 s) ≡ true → are_digits 10 48 (slice 13 21 s) ≡ false → read_symbol s ≡ refused_read 4
+  strike_wrong h k l = read_tested false (rw (h, k, l))
+
+  -- where all are digits, each field's are
+  pub year_digits : Digits (slice 6 12 s) → Digits (slice 13 21 s) → Digits (get_or s 6 0 ∷ get_or s 7 0 ∷ [])
+  year_digits h k = (digits_apart h k).0
+
+  pub month_digits : Digits (slice 6 12 s) → Digits (slice 13 21 s) → Digits (get_or s 8 0 ∷ get_or s 9 0 ∷ [])
+  month_digits h k = (digits_apart h k).1
+
+  pub day_digits : Digits (slice 6 12 s) → Digits (slice 13 21 s) → Digits (get_or s 10 0 ∷ get_or s 11 0 ∷ [])
+  day_digits h k = (digits_apart h k).2
+
+  -- root and digits are right: the limits decide
+  pub limits_decide : is_root (slice 0 6 s) ≡ true → are_digits 10 48 (slice 6 12 s) ≡ true → are_digits 10 48 (slice 13 21 s) ≡ true
+      → {p : SymbolParts} → p ≡ parts_of s → {b : Bool} → b ≡ in_limits p → (c : Bool) → b ≡ c
+      → read_symbol s ≡ cond c (record { number = 0; parts = p }) (refused_read 4)
+  limits_decide h k l e f c g =
+      read_tested true (rw (h, k, l)) ∙ rw (sym (f ∙ ap in_limits e) ∙ g) (rw e refl)
 
   -- the number is 0 exactly where the bytes are in the layout
   pub read_good : is_symbol s ≡ true → read_symbol s ≡ record { number = 0; parts = parts_of s }

@@ -15,6 +15,7 @@ use roots::is_root;
 use rules::{Mills, SymbolParts, SymbolRead};
 
 // Whether expiry, type and strike are in their limits.
+#[tactic(auto, unfolding(rules::specs::Symbol::in_limits))]
 pub fn in_limits(p: SymbolParts) -> bool
     ensures { result ≡ in_limits p }
 {
@@ -46,6 +47,7 @@ fn refused(number: u64) -> SymbolRead
 
 // What 21 bytes say whose root is tested, and known as a number. The digits are tested before they are valued, since
 // `two` and `eight` take digits only.
+#[tactic(auto, using(crate::proofs::Laws::expiry_wrong, crate::proofs::Laws::strike_wrong, crate::proofs::Laws::year_digits, crate::proofs::Laws::month_digits, crate::proofs::Laws::day_digits, rules::proofs::Tests::not_eq))]
 pub fn read_after(root: u64, s: &[u8]) -> SymbolRead
     requires { (length s.now ≡ 21) × (root ≡ value 256 0 (slice 0 6 s.now)) × (is_root (slice 0 6 s.now) ≡ true) }
     ensures { result ≡ read_symbol s.now }
@@ -73,6 +75,7 @@ pub fn read_after(root: u64, s: &[u8]) -> SymbolRead
     refused(4)
 }
 
+#[tactic(auto, using(crate::proofs::Laws::root_wrong, crate::proofs::Laws::root_valued, crate::proofs::Laws::root_tested, rules::proofs::Symbols::read_not_21))]
 pub fn read(s: &[u8]) -> SymbolRead
     ensures { result ≡ read_symbol s.now }
 {
