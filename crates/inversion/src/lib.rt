@@ -11,6 +11,7 @@ use reference::is_unusable;
 use rules::{Market, Mills, Settings};
 use sides::{at_or_past, is_beyond, national, own};
 
+#[tactic(auto, unfolding(rules::specs::Quote::comparison))]
 fn comparison(bought: bool, m: Market) -> Mills
     ensures { result ≡ comparison bought m }
 {
@@ -21,6 +22,7 @@ fn comparison(bought: bool, m: Market) -> Mills
 }
 
 // The set ticks as mills, of the tick at `p`.
+#[tactic(auto, using(laws::proofs::Bounds::settings_bounds, laws::proofs::Bounds::tick_bound, laws::proofs::Bounds::distance_bound), unfolding(rules::specs::Quote::set_distance))]
 fn set_distance(st: Settings, p: Mills) -> Mills
     requires { settings_hold st ≡ true }
     ensures { (result ≡ set_distance st p) × (result.0 ≤ 1000000) }
@@ -30,6 +32,7 @@ fn set_distance(st: Settings, p: Mills) -> Mills
 
 // One side of a quote: the bid (`bought`) or the offer. Where the own price stands in for the national best it equals
 // the comparison price, and the set ticks apply.
+#[tactic(auto, using(laws::proofs::Bounds::comparison_bound), unfolding(rules::specs::Quote::is_inverted))]
 pub fn is_inverted(bought: bool, st: Settings, m: Market, price: Mills) -> bool
     requires { (settings_hold st ≡ true) × (market_holds m ≡ true) }
     ensures { result ≡ is_inverted bought st m price }
@@ -54,6 +57,7 @@ fn is_quoting(m: Market) -> bool
     either(m.phase == 1, both(m.phase == 0, m.elsewhere != 0))
 }
 
+#[tactic(auto, unfolding(rules::specs::Quote::quote_inversion))]
 pub fn quote_inversion(st: Settings, m: Market, bid: Mills, offer: Mills) -> bool
     requires { (settings_hold st ≡ true) × (market_holds m ≡ true) }
     ensures { result ≡ quote_inversion st m bid offer }

@@ -9,6 +9,7 @@ use choice::{both, negated};
 use rules::{Market, Mills, Series};
 
 // Check 20: a put at its strike or above.
+#[tactic(auto, unfolding(rules::specs::Checks::put_test))]
 pub fn put_test(s: Series, paid: Mills) -> bool
     ensures { result ≡ put_test s paid }
 {

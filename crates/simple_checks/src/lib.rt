@@ -29,6 +29,7 @@ fn simple_buy(t: Terms, u: Leg, passed: bool) -> bool
 }
 
 // D: the ticks of the reference's band as mills.
+#[tactic(auto, using(laws::proofs::Bounds::acceptable_bound, laws::proofs::Bounds::tick_bound, laws::proofs::Bounds::distance_bound), unfolding(rules::specs::Market::limit_distance))]
 fn limit_distance(st: Settings, r: Mills) -> Mills
     requires { settings_hold st ≡ true }
     ensures { (result ≡ limit_distance st r) × (result.0 ≤ 1000000) }
@@ -36,6 +37,7 @@ fn limit_distance(st: Settings, r: Mills) -> Mills
     distance(acceptable_ticks(st, r), tick_at(st, r))
 }
 
+#[tactic(auto, using(laws::proofs::Bounds::reference_bound), unfolding(rules::specs::Market::is_too_far))]
 fn is_too_far(st: Settings, m: Market, t: Terms, u: Leg) -> bool
     requires { (settings_hold st ≡ true) × (market_holds m ≡ true) }
     ensures { result ≡ is_too_far st m t u }
