@@ -1,4 +1,4 @@
-//! Links the proved library, which `rt staticlib unit` writes.
+//! Links the proved library, which `host/library` writes.
 
 use std::{env, path::PathBuf};
 
@@ -8,7 +8,7 @@ fn main() {
     let archive = folder.join("libunit.a");
     assert!(
         archive.exists(),
-        "target/staticlib/libunit.a is missing: run `rt staticlib unit` first"
+        "target/staticlib/libunit.a is missing: run `host/library` first"
     );
     println!("cargo:rerun-if-changed={}", archive.display());
     println!("cargo:rustc-link-search=native={}", folder.display());

@@ -17,11 +17,12 @@ need() {
     command -v "$1" >/dev/null 2>&1 || stop "'$1' is not on PATH; it is $2"
 }
 
-# is_current FILE SOURCE ..: whether the file is there, and nothing of the sources is newer.
+# is_current FILE SOURCE ..: whether the file is there, and nothing of the sources is newer. What rt makes of a crate is
+# in a folder out in it, and no source.
 is_current() (
     file=$1
     shift
-    [ -f "$file" ] && [ -z "$(find "$@" -newer "$file" | head -n 1)" ]
+    [ -f "$file" ] && [ -z "$(find "$@" -name out -prune -o -newer "$file" -print | head -n 1)" ]
 )
 
 library_is_current() {
@@ -61,7 +62,7 @@ count_crates() {
         }' crates.txt
 }
 
-# Reads what rt says, and says after each crate how far it is. Fails unless the last line is this one.
+# Reads what rt says, and says after each crate that it proved how far it is. Fails unless the last line is this one.
 follow_proofs() {
     crates=$(count_crates)
     n=0
@@ -69,14 +70,22 @@ follow_proofs() {
     while IFS= read -r said; do
         last=$said
         case $said in
-        "rt: "*" proved ("*) crate=${said#rt: } ;;
-        "rt: $library has "*) crate="unit proved, and $library built" ;;
-        *) continue ;;
+        "crate "*": "*) crate=${said#crate } crate=${crate%%:*} ;;
+        "logic=proved "*)
+            n=$((n + 1))
+            echo "$0: $n of $crates: $crate proved" >&2
+            ;;
         esac
-        n=$((n + 1))
-        echo "$0: $n of $crates: $crate" >&2
     done
     [ "$last" = "$1" ]
+}
+
+# rt writes the library into the crate's folder. It is copied under another name first: so it is whole at any time.
+make_library() {
+    (cd crates/unit && rt lib) &&
+        mkdir -p "${library%/*}" &&
+        cp crates/unit/out/libunit.a "$library.new" &&
+        mv "$library.new" "$library"
 }
 
 prove() {
@@ -86,7 +95,7 @@ prove() {
     need rt "the Rattle toolchain, which proves and builds the library"
     log=target/host/library.log
     echo "$0: proves and builds the library, minutes where nothing is proved yet" >&2
-    { rt staticlib unit 2>&1 && echo "all proved"; } | tee "$log" | follow_proofs "all proved" || {
+    { make_library 2>&1 && echo "all proved"; } | tee "$log" | follow_proofs "all proved" || {
         tail -n 20 "$log" >&2
         stop "the library was not proved and built; $PWD/$log has all that rt said"
     }
