@@ -2,22 +2,22 @@
 use mathlib.Core.Path.{◌≡◌, refl, sym, ap, ◌∙◌}
 use mathlib.Core.List.{List, [], ◌∷◌, ◌++◌, append-nil}
 use mathlib.Core.Bool.{Bool}
-use Prim.Native.Nat.{ℕ, suc, ◌+◌, ◌-◌, ◌<◌, ◌≤◌}
+use Prim.Native.Nat.{ℕ, suc, ◌+◌, ◌<◌, ◌≤◌}
 use native.Mathlib.Omega.{arith}
 use native.Mathlib.Numerals.{add-one}
 use lib.ListN.{length, take, drop, get_or, set, get_or-append, take-append-drop}
 use lib.Seq.{get_or-take, length-take-le, take-suc, take-suc-set, take-set-lt, drop-set-lt, append_snoc, set_at, drop_at, take-take, take-append-le}
 use Rattle.rules.specs.declared.Series.{Series}
 use Rattle.rules.specs.declared.Leg.{Leg}
-use Rattle.rules.specs.Pairing.{Pair, Reached, Walked, less, pair_of, matched, reach, walk}
+use Rattle.rules.specs.Pairing.{Pair, Reached, Walked, less, pair_of, is_debit, matched, reach, walk}
 use Rattle.rules.specs.Order.{no_leg}
 use Rattle.loops.proofs.Finding as finding
 use Rattle.tagged.specs.declared.PairTally.{PairTally}
-use Rattle.tagged.specs.Tags.{none, noted}
+use Rattle.tagged.specs.Tags.{none, noted, one_more}
 
 pub noted_append : (t : PairTally) (ms ns : List Pair) → noted t (ms ++ ns) ≡ noted (noted t ms) ns
 noted_append t [] ns = refl
-noted_append t (m ∷ ms) ns = noted_append _ ms ns
+noted_append t (m ∷ ms) ns = noted_append (one_more t (is_debit m.buy m.sell)) ms ns
 
 -- what the inner loop keeps: `front` stands before the legs that are still to be met
 pub record View : Type 0 where
