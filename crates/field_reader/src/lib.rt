@@ -1,5 +1,4 @@
-// A reader that holds a message and its position between fields. The borrow checker covers no function over such a
-// struct: these few are proved by hand, and leave the work to `fields`.
+// A reader that holds a message and its position between fields. The work is left to `fields`.
 #![tactic(auto)]
 
 ghost use Rattle.std.specs.Prelude.{◌≡◌};
@@ -37,7 +36,7 @@ pub fn moved<'a>(r: FieldReader<'a>, at: usize) -> FieldReader<'a>
     }
 }
 
-// The field at a place of a message: plain parameters, so whoever calls this needs no proof by hand.
+// The field at a place of a message, for whoever holds no reader.
 pub fn field_at(message: &[u8], at: usize) -> Field
     ensures { result ≡ field_at message.now at }
 {
