@@ -10,6 +10,7 @@ use logins::{is_limit, place_login};
 use rules::{Login, Tally};
 
 // Whether there are 32, each within its range.
+#[tactic(auto, using(crate::proofs::Laws::limits_other, crate::proofs::Laws::limits_end))]
 fn are_limits(limits: &[u64]) -> bool
     ensures { result ≡ eqb (length limits.now) 32 && all is_rejection_limit limits.now }
 {
@@ -27,6 +28,7 @@ fn are_limits(limits: &[u64]) -> bool
 }
 
 // Each login anew, with its limit.
+#[tactic(auto, using(crate::proofs::Laws::filled_none, crate::proofs::Laws::filled_next, crate::proofs::Laws::filled_all))]
 fn fill(limits: &[u64], session: &mut [u64])
     requires { (length limits.now ≡ 32) × (length session.old ≡ 192) }
     ensures { session.new ≡ session_of limits.now }
@@ -49,6 +51,7 @@ fn fill(limits: &[u64], session: &mut [u64])
 }
 
 // Starts a session. Other limits leave it all zero: no login has a limit, and each call of a login 0 to 31 gets 12.
+#[tactic(auto, using(crate::proofs::Laws::limits_some, crate::proofs::Laws::start_other, crate::proofs::Laws::start_done, crate::proofs::Laws::start_refused))]
 pub fn start(limits: &[u64], session: &mut [u64]) -> u64
     ensures value { result ≡ (start_session limits.now session.old).number }
     ensures session_after { session.new ≡ (start_session limits.now session.old).session }
