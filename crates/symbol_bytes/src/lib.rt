@@ -11,6 +11,7 @@ use root_number::root_bytes;
 use rules::SymbolParts;
 
 // A number in eight digits.
+#[tactic(auto, unfolding(rules::specs::Numerals::numeral))]
 fn eight_bytes(k0: u64) -> [u8; 8]
     requires { k0 < 100000000 }
     ensures { result ≡ numeral 10 48 8 k0 }
@@ -33,6 +34,7 @@ fn eight_bytes(k0: u64) -> [u8; 8]
     ]
 }
 
+#[tactic(auto, unfolding(rules::specs::Symbol::symbol_of, rules::specs::Numerals::numeral))]
 pub fn symbol_of(p: SymbolParts) -> [u8; 21]
     requires { Fits p }
     ensures { result ≡ symbol_of p }
