@@ -37,7 +37,7 @@ pub fn meet(
     s: Step,
 ) -> Step
     requires in_sequence { InSequence n tags.now left.old × (i < at) × (at < n) × (s.debits + s.credits < 1000) }
-    requires le_m { (1 ≤ m)
+    requires matched { (1 ≤ m)
         × (matched_at (get_or tags.now i 0) m (get_or tags.now at 0) (get_or left.old at 0) ≡ m)
         × Counts tags.now left.old n i (i + 1) s.figure
         × (shows_other s.figure (sign (is_bought (get_or tags.now i 0))) ≡ true) }
