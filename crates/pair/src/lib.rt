@@ -9,6 +9,7 @@ use choice::{both, either};
 use rules::{PairAnswer, PairSide};
 
 // By the two orders' own numbers, and the mark to continue unpaired.
+#[tactic(auto, unfolding(rules::specs::Pair::paired))]
 pub fn paired(unpaired: u64, agency: u64, contra: u64) -> PairAnswer
     ensures { result ≡ paired unpaired agency contra }
 {

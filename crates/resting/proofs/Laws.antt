@@ -1,7 +1,7 @@
--- A resting list tested place by place; and what gets 36, by its parts.
+-- A resting list tested place by place.
 use mathlib.Core.Path.{◌≡◌, refl, sym, ap, ◌∙◌}
 use mathlib.Core.List.{List, ◌∷◌}
-use mathlib.Core.Bool.{Bool, true, false, not, ◌&&◌, ◌||◌}
+use mathlib.Core.Bool.{Bool, true, false, not, ◌&&◌}
 use Prim.Native.Nat.{ℕ, ◌+◌, ◌≤◌, ◌<◌}
 use native.Mathlib.Omega.{arith}
 use native.Mathlib.Numerals.{add-one}
@@ -9,10 +9,9 @@ use lib.ListN.{length, drop, get_or, drop_of_length-le}
 use lib.Seq.{drop-cons}
 use borrow.Author.Tests.{not-false}
 use Rattle.rules.specs.Lists.{all}
-use Rattle.rules.specs.Market.{is_missing, at_or_past}
-use Rattle.rules.specs.Crossing.{Crossing, is_bought, is_price, is_size, leads, in_sequence, list_holds, are_bad_lengths, is_bad_crossing}
+use Rattle.rules.specs.Market.{at_or_past}
+use Rattle.rules.specs.Crossing.{is_price, is_size, leads, in_sequence, list_holds}
 use Rattle.rules.proofs.Tests.{not_eq}
-use Rattle.rules.proofs.Executing.{lengths_fit}
 
 -- ---- a price and the next
 
@@ -57,19 +56,3 @@ module _ (bought : Bool) where
     pub holds_end : length ps ≤ i → true ≡ list_holds bought ps ns
     unfolding all in_sequence
     holds_end h = sym (so ∙ rw (drop_of_length-le ps {i = i} h, drop_of_length-le ns {i = i} (omega (arith, same))) refl)
-
--- ---- what gets 36
-
-module _ (room : ℕ) (c : Crossing) where
-  pub bad_lengths : {b : Bool} → b ≡ are_bad_lengths room c.prices c.sizes → b ≡ true → true ≡ is_bad_crossing room c
-  unfolding is_bad_crossing
-  bad_lengths e h = sym (ap (λ (b : Bool). b || (not (list_holds (is_bought c) c.prices c.sizes) || (not (is_size c.size) || not (is_missing c.away || is_price c.away.0)))) (sym e ∙ h))
-
-  -- lengths that fit: as many sizes as prices
-  pub paired : {b : Bool} → b ≡ are_bad_lengths room c.prices c.sizes → b ≡ false → length c.sizes ≡ length c.prices
-  paired e h = (lengths_fit room c.prices c.sizes (sym e ∙ h)).0
-
-  -- the rest of what is asked, of a list whose lengths fit
-  pub by_parts : {b l r : Bool} → b ≡ are_bad_lengths room c.prices c.sizes → b ≡ false → l ≡ list_holds (is_bought c) c.prices c.sizes → r ≡ not l || (not (is_size c.size) || not (is_missing c.away || is_price c.away.0)) → r ≡ is_bad_crossing room c
-  unfolding is_bad_crossing
-  by_parts long h list e = cc (long, h, list, e)

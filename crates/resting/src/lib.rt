@@ -18,6 +18,7 @@ pub fn is_bought(sell: u64) -> bool
 }
 
 // A fill is lent for each of at most 64, and each has a price and a size.
+#[tactic(auto, unfolding(rules::specs::Crossing::are_bad_lengths))]
 fn are_bad_lengths(room: usize, prices: &[u64], sizes: &[u64]) -> bool
     ensures { result ≡ are_bad_lengths room prices.now sizes.now }
 {
@@ -26,6 +27,7 @@ fn are_bad_lengths(room: usize, prices: &[u64], sizes: &[u64]) -> bool
 }
 
 // Whether the price at a place comes before the next one. The last has none behind it.
+#[tactic(auto, using(crate::proofs::Laws::leads_next, crate::proofs::Laws::leads_last))]
 fn leads(bought: bool, prices: &[u64], i: usize) -> bool
     requires { i < length prices.now }
     ensures { result ≡ leads bought (get_or prices.now i 0) (drop (i + 1) prices.now) }
@@ -38,6 +40,7 @@ fn leads(bought: bool, prices: &[u64], i: usize) -> bool
 }
 
 // Each price and size within its limits, and the prices in sequence. Ends at the first that is wrong.
+#[tactic(auto, using(crate::proofs::Laws::holds_end))]
 fn list_holds(bought: bool, prices: &[u64], sizes: &[u64]) -> bool
     requires { length sizes.now ≡ length prices.now }
     ensures { result ≡ list_holds bought prices.now sizes.now }
@@ -57,6 +60,7 @@ fn list_holds(bought: bool, prices: &[u64], sizes: &[u64]) -> bool
 }
 
 // Whether a crossing quote gets 36 where the quote check does not refuse it. `room` is the number of fills lent.
+#[tactic(auto, using(rules::proofs::Executing::lengths_fit), unfolding(rules::specs::Crossing::is_bad_crossing))]
 pub fn is_bad_crossing(
     room: usize,
     sell: u64,
