@@ -1,8 +1,12 @@
 -- The parts that are in the layout, as the code tests them.
-use mathlib.Core.Path.{◌≡◌, ◌∙◌}
-use mathlib.Core.List.{List}
+use mathlib.Core.Path.{◌≡◌, sym, subst, ap, ◌∙◌}
+use mathlib.Core.List.{List, ◌++◌}
 use mathlib.Core.Bool.{Bool, true, false, ◌&&◌}
-use Prim.Native.Nat.{ℕ, ◌^◌, ◌≤◌, ◌<◌}
+use Prim.Native.Nat.{ℕ, ◌+◌, ◌^◌, ◌≤◌, ◌<◌}
+use native.Mathlib.Omega.{arith}
+use native.Mathlib.Numerals.{add-one}
+use lib.ListN.{length, drop, set, get_or}
+use lib.Seq.{paste, paste-suc, take_all}
 use borrow.Author.Tests.{lt-ltb, le-ltb}
 use Rattle.rules.specs.declared.SymbolParts.{SymbolParts}
 use Rattle.rules.specs.Numerals.{numeral}
@@ -31,3 +35,14 @@ layout_fits p h =
     let a = laid p h in
     let l = limits p a.2 in
     record { root = a.0; from = l.from; to = l.to; month = l.month; day = l.day; right = l.right; strike = l.strike }
+
+-- one byte more of the symbol stands in the buffer
+pub pasted : (d s : List ℕ) (i : ℕ) → i < length d → i < length s → set (paste d 0 s i) i (get_or s i 0) ≡ paste d 0 s (i + 1)
+pasted d s i h k =
+    let e : 0 + i ≡ i = omega arith in
+    let l : 0 + i < length d = omega arith in
+    subst (λ (n : ℕ). set (paste d 0 s i) n (get_or s i 0) ≡ paste d 0 s (i + 1)) e (paste-suc d 0 s i 0 l k ∙ ap (paste d 0 s) (sym (add-one i)))
+
+-- all of the symbol stands in the buffer
+pub whole_pasted : (d s : List ℕ) (i : ℕ) → i ≡ length s → paste d 0 s i ≡ s ++ drop i d
+whole_pasted d s i h = let e : 0 + i ≡ i = omega arith in rw (e, take_all i s (omega arith))

@@ -12,6 +12,7 @@ use rules::SymbolParts;
 use symbol::in_limits;
 use symbol_bytes::symbol_of;
 
+#[tactic(auto, using(crate::proofs::Laws::root_too_large, crate::proofs::Laws::layout_read))]
 fn in_layout(p: SymbolParts) -> bool
     ensures { result ≡ in_layout p }
 {
@@ -24,6 +25,7 @@ fn in_layout(p: SymbolParts) -> bool
 }
 
 // The buffer's first 21 bytes become the symbol; the others stay.
+#[tactic(auto, using(crate::proofs::Laws::pasted, crate::proofs::Laws::whole_pasted))]
 fn place(symbol: &[u8; 21], buffer: &mut [u8])
     requires { (length symbol.now ≡ 21) × (21 ≤ length buffer.old) }
     ensures { buffer.new ≡ symbol.now ++ drop 21 buffer.old }
@@ -36,6 +38,7 @@ fn place(symbol: &[u8; 21], buffer: &mut [u8])
 }
 
 // Writes the symbol into the buffer, and gives the number: all that the buffer holds afterwards is in the contract.
+#[tactic(auto, using(crate::proofs::Laws::layout_fits, rules::proofs::Symbols::write_short, rules::proofs::Symbols::write_outside, rules::proofs::Symbols::write_of))]
 pub fn fill(p: SymbolParts, buffer: &mut [u8]) -> u64
     ensures value { result ≡ (write_symbol p buffer.old).number }
     ensures buffer_after { buffer.new ≡ (write_symbol p buffer.old).buffer }
@@ -52,6 +55,7 @@ pub fn fill(p: SymbolParts, buffer: &mut [u8]) -> u64
 }
 
 // The symbol writer: the leading part of the buffer that holds the symbol, or an empty one, and the number.
+#[tactic(auto, using(rules::proofs::Symbols::handed_symbol, rules::proofs::Symbols::handed_nothing))]
 pub fn write<'a, 'b>(p: SymbolParts, buffer: &'a mut [u8], number: &'b mut u64) -> &'a mut [u8]
     ensures { Handed p buffer.entry result number.new }
 {
