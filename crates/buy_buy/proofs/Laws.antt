@@ -1,5 +1,5 @@
 -- The sum of sizes, and check 22, test for test.
-use mathlib.Core.Path.{◌≡◌, refl, ◌∙◌}
+use mathlib.Core.Path.{◌≡◌, refl, sym, ap, ◌∙◌}
 use mathlib.Core.List.{List, [], ◌∷◌}
 use mathlib.Core.Bool.{Bool, true, false, cond, not, ◌&&◌, ◌||◌}
 use Prim.Native.Nat.{ℕ, ◌+◌, ◌*◌, ◌<◌, ◌≤◌}
@@ -54,13 +54,18 @@ below_grouped false shares on below = refl
 abbrev is_looked : Terms → List Leg → Bool → Bool
 is_looked t us side = eqb t.kind 0 && (shares_on side t && all (λ u. same_bool side u.bought) us)
 
+read_first : (st : Settings) (t : Terms) (x : Leg) (ls : List Leg) → is_complex t (x ∷ ls) ≡ true
+    → buy_buy st t (x ∷ ls) ≡ cond (is_looked t (x ∷ ls) x.bought) (is_below x.bought t.price (sizes (x ∷ ls) * st.increment.0)) false
+unfolding buy_buy every same_side_below all
+read_first st t x ls c =
+    let grouped = below_grouped (eqb t.kind 0) (shares_on x.bought t) (all (λ u. same_bool x.bought u.bought) (x ∷ ls)) _ in
+    rw (c, either_side x.bought (λ side. all (λ u. same_bool side u.bought) ls) (λ side. shares_on side t && (is_below side t.price (sizes (x ∷ ls) * st.increment.0) && true))) grouped
+
 read : (st : Settings) (t : Terms) (us : List Leg) (side : Bool) → is_complex t us ≡ true → 1 ≤ length us → side ≡ (get_or us 0 no_leg).bought
     → buy_buy st t us ≡ cond (is_looked t us side) (is_below side t.price (sizes us * st.increment.0)) false
-unfolding buy_buy every same_side_below all
 read st t [] side c h first = absurd (omega arith)
 read st t (x ∷ ls) side c h first =
-    let grouped = below_grouped (eqb t.kind 0) (shares_on x.bought t) (all (λ u. same_bool x.bought u.bought) (x ∷ ls)) _ in
-    rw (c, first, either_side x.bought (λ side. all (λ u. same_bool side u.bought) ls) (λ side. shares_on side t && (is_below side t.price (sizes (x ∷ ls) * st.increment.0) && true))) grouped
+    read_first st t x ls c ∙ ap (λ (b : Bool). cond (is_looked t (x ∷ ls) b) (is_below b t.price (sizes (x ∷ ls) * st.increment.0)) false) (sym first)
 
 -- the code's answer
 module _ (st : Settings) (t : Terms) (n : ℕ) (tags units : List ℕ) (full : length tags ≡ 16) (counted : length units ≡ 16) (order : ComplexOrder st t (legs_in 0 false n tags units)) (root : ℕ) where

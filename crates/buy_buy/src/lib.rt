@@ -44,6 +44,7 @@ fn sizes(units: &[u64; 16], n: usize) -> u64
 }
 
 // The amount paid, or received, is below `n`. One of the other sign is below every sum.
+#[tactic(auto, unfolding(rules::specs::Checks::is_below))]
 fn is_below(bought: bool, p: Price, n: u64) -> bool
     ensures { result ≡ is_below bought p n }
 {
@@ -53,6 +54,7 @@ fn is_below(bought: bool, p: Price, n: u64) -> bool
 }
 
 // The shares, if there are any, are on this side.
+#[tactic(auto, using(rules::proofs::Tests::beq_same), unfolding(rules::specs::Checks::shares_on))]
 fn shares_on(side: bool, t: Terms) -> bool
     ensures { result ≡ shares_on side t }
 {
