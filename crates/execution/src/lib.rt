@@ -13,6 +13,7 @@ use rules::Mills;
 use sides::at_or_past;
 
 // No fill at all.
+#[tactic(auto, using(crate::proofs::Laws::clear_turn, crate::proofs::Laws::clear_all))]
 pub fn clear(fills: &mut [u64])
     ensures { fills.new ≡ replicate (length fills.old) 0 }
 {
@@ -24,6 +25,7 @@ pub fn clear(fills: &mut [u64])
 }
 
 // Whether the remainder is booked: the quote's price is short of the away price, or there is none.
+#[tactic(auto, unfolding(rules::specs::Crossing::is_booked))]
 pub fn is_booked(bought: bool, price: Mills, away: Mills) -> bool
     ensures { result ≡ is_booked bought price away }
 {
@@ -40,6 +42,7 @@ pub fn furthest(booked: bool, price: Mills, away: Mills) -> Mills
 
 // The best first: each resting price fills what it can of the size that is left, up to the furthest price. Gives what is
 // left in the end.
+#[tactic(auto, using(crate::proofs::Laws::fill_fits, crate::proofs::Laws::filled_left, crate::proofs::Laws::filled_all))]
 pub fn fill(
     bought: bool,
     furthest: Mills,
