@@ -84,7 +84,7 @@ pub fn check_fix(
     settings: &[u64],
     market: &[u64],
 ) -> OrderAnswer
-    ensures { result ≡ check_fix (record { settings = settings_of settings.entry.now; market = market_of market.now; stop = stop; manual = manual; opening = opening }) message.now }
+    ensures { result ≡ check_fix (record { settings = settings_of settings.now; market = market_of market.now; stop = stop; manual = manual; opening = opening }) message.now }
 {
     let h = head_of(message);
     let s = scan_fields(message, h.body);

@@ -18,7 +18,7 @@ pub extern "C" fn opc_check_fix(
     shape: &mut u64,
     pairings: &mut u64,
 ) -> u64
-    ensures { record { number = result; class = class.new; shape = shape.new; pairings = pairings.new } ≡ check_fix (record { settings = settings_of settings.entry.now; market = market_of market.now; stop = stop; manual = manual; opening = opening }) message.now }
+    ensures { record { number = result; class = class.new; shape = shape.new; pairings = pairings.new } ≡ check_fix (record { settings = settings_of settings.now; market = market_of market.now; stop = stop; manual = manual; opening = opening }) message.now }
 {
     let answer = check_fix(message, stop, manual, opening, settings, market);
     *class = answer.class;

@@ -23,7 +23,7 @@ pub extern "C" fn opc_check_order(
     shape: &mut u64,
     pairings: &mut u64,
 ) -> u64
-    ensures { record { number = result; class = class.new; shape = shape.new; pairings = pairings.new } ≡ answer_to (record { settings = settings_of settings.entry.now; market = market_of market.now; price = price; kind = kind; stop = stop; manual = manual; opening = opening; shares = shares }) symbols.now counts.now }
+    ensures { record { number = result; class = class.new; shape = shape.new; pairings = pairings.new } ≡ answer_to (record { settings = settings_of settings.now; market = market_of market.now; price = price; kind = kind; stop = stop; manual = manual; opening = opening; shares = shares }) symbols.now counts.now }
 {
     let terms = terms_of(price, kind, stop, manual, opening, shares);
     let answer = check_slices(symbols, counts, terms, settings, market);

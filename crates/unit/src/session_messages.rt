@@ -22,7 +22,7 @@ pub extern "C" fn opc_check_fix_session(
     shape: &mut u64,
     pairings: &mut u64,
 ) -> u64
-    ensures { record { answer = record { number = result; class = class.new; shape = shape.new; pairings = pairings.new }; session = session.new } ≡ check_in_session session.old login (messageCall (record { settings = settings_of settings.entry.now; market = market_of market.now; stop = stop; manual = manual; opening = opening }) message.now) }
+    ensures { record { answer = record { number = result; class = class.new; shape = shape.new; pairings = pairings.new }; session = session.new } ≡ check_in_session session.old login (messageCall (record { settings = settings_of settings.now; market = market_of market.now; stop = stop; manual = manual; opening = opening }) message.now) }
 {
     let turned = turned_away(true, session, login);
     if turned != 0 {

@@ -27,7 +27,7 @@ pub extern "C" fn opc_check_order_session(
     shape: &mut u64,
     pairings: &mut u64,
 ) -> u64
-    ensures { record { answer = record { number = result; class = class.new; shape = shape.new; pairings = pairings.new }; session = session.new } ≡ check_in_session session.old login (order (record { settings = settings_of settings.entry.now; market = market_of market.now; price = price; kind = kind; stop = stop; manual = manual; opening = opening; shares = shares }) symbols.now counts.now) }
+    ensures { record { answer = record { number = result; class = class.new; shape = shape.new; pairings = pairings.new }; session = session.new } ≡ check_in_session session.old login (order (record { settings = settings_of settings.now; market = market_of market.now; price = price; kind = kind; stop = stop; manual = manual; opening = opening; shares = shares }) symbols.now counts.now) }
 {
     let turned = turned_away(true, session, login);
     if turned != 0 {

@@ -15,7 +15,7 @@ pub extern "C" fn opc_read_symbol(
     option_type: &mut u64,
     strike: &mut u64,
 ) -> u64
-    ensures { record { number = result; parts = record { root = root.exit.now; year = year.new; month = month.new; day = day.new; right = option_type.new; strike = record { 0 = strike.new } } } ≡ read_symbol symbol.now }
+    ensures { record { number = result; parts = record { root = root.new; year = year.new; month = month.new; day = day.new; right = option_type.new; strike = record { 0 = strike.new } } } ≡ read_symbol symbol.now }
 {
     let answer = symbol::read(symbol);
     *root = answer.parts.root;
@@ -39,7 +39,7 @@ pub extern "C" fn opc_write_symbol(
     out: &mut [u8],
     number: &mut u64,
 ) -> u64
-    ensures { record { number = number.exit.now; handed = result; buffer = out.new } ≡ write_symbol (record { root = root; year = year; month = month; day = day; right = option_type; strike = record { 0 = strike } }) out.old }
+    ensures { record { number = number.new; handed = result; buffer = out.new } ≡ write_symbol (record { root = root; year = year; month = month; day = day; right = option_type; strike = record { 0 = strike } }) out.old }
 {
     let parts = SymbolParts {
         root: root,

@@ -24,7 +24,7 @@ pub extern "C" fn opc_check_fix_tallied(
     accepted: &mut u64,
     rejected: &mut u64,
 ) -> u64
-    ensures { record { answer = record { number = result; class = class.new; shape = shape.new; pairings = pairings.new }; tally = record { seen = seen.exit.now; refused = refused.new; accepted = accepted.new; rejected = rejected.new } } ≡ check_tallied (record { seen = seen.entry.now; refused = refused.old; accepted = accepted.old; rejected = rejected.old }) (messageCall (record { settings = settings_of settings.entry.now; market = market_of market.now; stop = stop; manual = manual; opening = opening }) message.now) }
+    ensures { record { answer = record { number = result; class = class.new; shape = shape.new; pairings = pairings.new }; tally = record { seen = seen.new; refused = refused.new; accepted = accepted.new; rejected = rejected.new } } ≡ check_tallied (record { seen = seen.old; refused = refused.old; accepted = accepted.old; rejected = rejected.old }) (messageCall (record { settings = settings_of settings.now; market = market_of market.now; stop = stop; manual = manual; opening = opening }) message.now) }
 {
     let before = Tally {
         seen: *seen,

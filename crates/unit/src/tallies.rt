@@ -29,7 +29,7 @@ pub extern "C" fn opc_check_order_tallied(
     accepted: &mut u64,
     rejected: &mut u64,
 ) -> u64
-    ensures { record { answer = record { number = result; class = class.new; shape = shape.new; pairings = pairings.new }; tally = record { seen = seen.exit.now; refused = refused.new; accepted = accepted.new; rejected = rejected.new } } ≡ check_tallied (record { seen = seen.entry.now; refused = refused.old; accepted = accepted.old; rejected = rejected.old }) (order (record { settings = settings_of settings.entry.now; market = market_of market.now; price = price; kind = kind; stop = stop; manual = manual; opening = opening; shares = shares }) symbols.now counts.now) }
+    ensures { record { answer = record { number = result; class = class.new; shape = shape.new; pairings = pairings.new }; tally = record { seen = seen.new; refused = refused.new; accepted = accepted.new; rejected = rejected.new } } ≡ check_tallied (record { seen = seen.old; refused = refused.old; accepted = accepted.old; rejected = rejected.old }) (order (record { settings = settings_of settings.now; market = market_of market.now; price = price; kind = kind; stop = stop; manual = manual; opening = opening; shares = shares }) symbols.now counts.now) }
 {
     let terms = terms_of(price, kind, stop, manual, opening, shares);
     let before = Tally {
