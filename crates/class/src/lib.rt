@@ -14,6 +14,7 @@ use strikes::{above_lower, below_higher};
 
 // The middle strike of calls is no nearer to the lower outer strike than to the higher, that of puts no nearer to the
 // higher.
+#[tactic(auto, using(crate::proofs::Laws::own_class_read))]
 fn has_own_class(a: Leg, m: Leg, b: Leg) -> bool
     ensures { result ≡ has_own_class a m b }
 {
@@ -24,6 +25,7 @@ fn has_own_class(a: Leg, m: Leg, b: Leg) -> bool
 }
 
 // A butterfly with a class of its own is a debit if the middle is sold, a credit if it is bought.
+#[tactic(auto, unfolding(rules::specs::Class::class_with))]
 fn class_of_three(a: Leg, m: Leg, b: Leg, pairs: u64) -> u64
     ensures { result ≡ class_with (a ∷ m ∷ b ∷ []) pairs }
 {
@@ -31,6 +33,7 @@ fn class_of_three(a: Leg, m: Leg, b: Leg, pairs: u64) -> u64
 }
 
 // The class of unit legs in the first walk's sequence. `pairs` is the class that the pairs and loners of a walk give.
+#[tactic(auto, using(crate::proofs::Laws::class_three, crate::proofs::Laws::class_other))]
 pub fn class_of(tags: &[u64; 16], units: &[u64; 16], n: usize, pairs: u64) -> u64
     requires { (length tags.now ≡ 16) × (length units.now ≡ 16) }
     ensures { (root : ℕ) → result ≡ class_with (legs_in root false n tags.now units.now) pairs }

@@ -17,22 +17,6 @@ use Rattle.keys.specs.Tags.{leg_at, legs_in}
 use Rattle.strikes.proofs.Listed.{shown}
 use Rattle.shape.specs.Box.{box_series, box_sides}
 
-pub every_four : (a b c d : Bool) → (a && b) && (c && d) ≡ every (a ∷ b ∷ c ∷ d ∷ [])
-unfolding every
-every_four false b c d = refl
-every_four true false c d = refl
-every_four true true false d = refl
-every_four true true true false = refl
-every_four true true true true = refl
-
-pub vertical_read : (a b : Leg) {expiry sides r : Bool}
-    → expiry ≡ one_expiry a.series b.series
-    → sides ≡ opposite a b
-    → r ≡ every (expiry ∷ is_of 1 a ∷ is_of 1 b ∷ sides ∷ [])
-    → r ≡ is_vertical a b
-unfolding is_vertical
-vertical_read a b e s r = rw (← e, ← s) r
-
 pub butterfly_read : (a m b : Leg) {first second left right middle x y r : Bool}
     → first ≡ one_expiry a.series m.series
     → second ≡ one_expiry m.series b.series
@@ -69,6 +53,14 @@ pub sides_read : (p q d c : Leg) {calls lower higher x first y r : Bool}
 unfolding box_sides
 sides_read p q d c {calls} {lower} {higher} f s k x z y r =
     rw (← f, ← s, ← k) (joined _ _ r x (cc (every_three calls lower higher)))
+
+pub is_box_read : (p q d c : Leg) {x y r : Bool}
+    → x ≡ every (box_series p.series q.series d.series c.series)
+    → y ≡ every (box_sides p q d c)
+    → r ≡ x && y
+    → r ≡ is_box p q d c
+unfolding is_box box_series box_sides
+is_box_read p q d c x y r = joined _ _ r x y
 
 -- Twice the middle strike against the sum of the outer ones, by its distances from the lower and from the higher.
 module _ (a m b : Leg) {low high : ℕ}

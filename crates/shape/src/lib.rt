@@ -14,6 +14,7 @@ use keys::leg_at;
 use rules::{Leg, Series};
 use strikes::{above_lower, below_higher};
 
+#[tactic(auto, unfolding(rules::specs::Lists::every))]
 fn all_four(a: bool, b: bool, c: bool, d: bool) -> bool
     ensures { result ≡ every (a ∷ b ∷ c ∷ d ∷ []) }
 {
@@ -21,6 +22,7 @@ fn all_four(a: bool, b: bool, c: bool, d: bool) -> bool
 }
 
 // The same type and expiry.
+#[tactic(auto, using(rules::proofs::Tests::beq_same))]
 fn one_expiry(s: Series, t: Series) -> bool
     ensures { result ≡ one_expiry s t }
 {
@@ -28,12 +30,14 @@ fn one_expiry(s: Series, t: Series) -> bool
 }
 
 // One is bought and the other sold.
+#[tactic(auto, using(rules::proofs::Tests::beq_same))]
 fn opposite(a: Leg, b: Leg) -> bool
     ensures { result ≡ opposite a b }
 {
     a.bought != b.bought
 }
 
+#[tactic(auto, unfolding(rules::specs::Class::is_vertical))]
 fn is_vertical(a: Leg, b: Leg) -> bool
     ensures { result ≡ is_vertical a b }
 {
@@ -52,6 +56,7 @@ fn between(a: u64, m: u64, b: u64) -> bool
 }
 
 // `m` has the middle strike.
+#[tactic(auto, using(crate::proofs::Laws::butterfly_read))]
 pub fn is_butterfly(a: Leg, m: Leg, b: Leg) -> bool
     ensures { result ≡ is_butterfly a m b }
 {
@@ -72,6 +77,7 @@ pub fn is_butterfly(a: Leg, m: Leg, b: Leg) -> bool
 }
 
 // The middle strike is as far from one outer strike as from the other.
+#[tactic(auto, using(crate::proofs::Laws::true_read))]
 fn is_true_butterfly(a: Leg, m: Leg, b: Leg) -> bool
     ensures { result ≡ is_true_butterfly a m b }
 {
@@ -81,6 +87,7 @@ fn is_true_butterfly(a: Leg, m: Leg, b: Leg) -> bool
 }
 
 // One expiry, two strikes, a call and a put at each.
+#[tactic(auto, using(crate::proofs::Laws::box_read))]
 fn box_series(p: Series, q: Series, d: Series, c: Series) -> bool
     ensures { result ≡ every (box_series p q d c) }
 {
@@ -101,6 +108,7 @@ fn box_series(p: Series, q: Series, d: Series, c: Series) -> bool
 }
 
 // One contract of each, the calls opposite, and at each strike call and put opposite.
+#[tactic(auto, using(crate::proofs::Laws::sides_read))]
 fn box_sides(p: Leg, q: Leg, d: Leg, c: Leg) -> bool
     ensures { result ≡ every (box_sides p q d c) }
 {
@@ -111,6 +119,7 @@ fn box_sides(p: Leg, q: Leg, d: Leg, c: Leg) -> bool
 }
 
 // `p` and `c` are the put and the call of the lower strike, `q` and `d` those of the higher.
+#[tactic(auto, using(crate::proofs::Laws::is_box_read))]
 fn is_box(p: Leg, q: Leg, d: Leg, c: Leg) -> bool
     ensures { result ≡ is_box p q d c }
 {
@@ -120,12 +129,14 @@ fn is_box(p: Leg, q: Leg, d: Leg, c: Leg) -> bool
     )
 }
 
+#[tactic(auto, unfolding(rules::specs::Class::shape_of))]
 fn shape_of_two(a: Leg, b: Leg) -> u64
     ensures { result ≡ shape_of (a ∷ b ∷ []) }
 {
     pick(is_vertical(a, b), 1, 0)
 }
 
+#[tactic(auto, unfolding(rules::specs::Class::shape_of))]
 fn shape_of_three(a: Leg, m: Leg, b: Leg) -> u64
     ensures { result ≡ shape_of (a ∷ m ∷ b ∷ []) }
 {
@@ -136,6 +147,7 @@ fn shape_of_three(a: Leg, m: Leg, b: Leg) -> u64
     )
 }
 
+#[tactic(auto, unfolding(rules::specs::Class::shape_of))]
 fn shape_of_four(p: Leg, q: Leg, d: Leg, c: Leg) -> u64
     ensures { result ≡ shape_of (p ∷ q ∷ d ∷ c ∷ []) }
 {
@@ -143,6 +155,7 @@ fn shape_of_four(p: Leg, q: Leg, d: Leg, c: Leg) -> u64
 }
 
 // The shape of unit legs in the first walk's sequence. Every shape has two to four legs.
+#[tactic(auto, using(crate::proofs::Laws::shape_other, crate::proofs::Laws::shape_two, crate::proofs::Laws::shape_three, crate::proofs::Laws::shape_four))]
 pub fn shape_of(tags: &[u64; 16], units: &[u64; 16], n: usize) -> u64
     requires { (length tags.now ≡ 16) × (length units.now ≡ 16) }
     ensures { (root : ℕ) → result ≡ shape_of (legs_in root false n tags.now units.now) }

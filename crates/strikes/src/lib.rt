@@ -47,6 +47,7 @@ fn strike_at(tag: u64) -> u64
 
 // M of check 24, of unit legs in the first walk's sequence. Three legs are taken for a butterfly, more for a box with
 // its calls last, from the highest strike down.
+#[tactic(auto, using(crate::proofs::Laws::maximum_two, crate::proofs::Laws::maximum_three, crate::proofs::Laws::maximum_four))]
 pub fn maximum_of(tags: &[u64; 16], n: usize) -> u64
     requires { (2 ≤ n) × (length tags.now ≡ 16) }
     ensures { (root : ℕ) (units : List ℕ) → length units ≡ 16 → result ≡ maximum_of (legs_in root false n tags.now units) }
