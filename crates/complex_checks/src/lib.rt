@@ -34,6 +34,7 @@ fn debit_credit(t: Terms, class: u64) -> bool
 }
 
 // A: the percentage of M, raised to the preset minimum, then lowered to the preset maximum.
+#[tactic(auto, using(laws::proofs::Bounds::settings_bounds, crate::proofs::Laws::share_bound), unfolding(rules::specs::Checks::allowance))]
 fn allowance(st: Settings, m: u64) -> u64
     requires { (settings_hold st ≡ true) × (m ≤ 99999999) }
     ensures { (result ≡ allowance st m) × (result ≤ 1000000) }
