@@ -187,7 +187,7 @@ in_sequence_lem body = runs body false false false 0 false (λ z. refl) ∙ rw (
 run_append : (q : Sequence) (xs ys : List (List ℕ)) → run_tags q (xs ++ ys) ≡ run_tags (run_tags q xs) ys
 unfolding run_tags
 run_append q [] ys = refl
-run_append q (x ∷ xs) ys = run_append _ xs ys
+run_append q (x ∷ xs) ys = run_append (sequence_step q (tag_of x) (legs_in x)) xs ys
 
 -- Outside the groups field 10 changes nothing; among them it is wrong, and they were not complete before it.
 ten_outside : (q : Sequence) (legs : ℕ) → eqb q.left 0 ≡ true → sequence_step q 10 legs ≡ q
