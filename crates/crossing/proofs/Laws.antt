@@ -2,22 +2,21 @@
 use mathlib.Core.Path.{◌≡◌, refl, sym, ap, ap₂, ◌∙◌}
 use mathlib.Core.List.{List, ◌++◌}
 use mathlib.Core.Bool.{Bool, true, false, cond}
-use Prim.Native.Nat.{ℕ, zero, suc, ◌-◌, ◌≤◌}
+use Prim.Native.Nat.{ℕ, zero, suc, ◌-◌}
 use native.Mathlib.Omega.{arith}
 use lib.Dec.{eqb}
 use lib.ListN.{length, drop, replicate}
-use borrow.Author.Tests.{eqb-true, eqb-false, eq-eqb, ne_eqb}
+use borrow.Author.Tests.{eqb-true, eqb-false}
 use Rattle.rules.specs.declared.Mills.{Mills}
 use Rattle.rules.specs.declared.Settings.{Settings}
 use Rattle.rules.specs.declared.Market.{Market}
 use Rattle.rules.specs.declared.QuoteAnswer.{QuoteAnswer}
-use Rattle.rules.specs.declared.CrossingAnswer.{CrossingAnswer}
 use Rattle.rules.specs.Lists.{total}
 use Rattle.rules.specs.Kinds.{is_refused}
 use Rattle.rules.specs.Market.{at_or_past}
 use Rattle.rules.specs.Quote.{check_quote}
-use Rattle.rules.specs.Crossing.{Crossing, is_bought, crossing_price, is_bad_crossing, may_fill, fills_of, crossing_fills, is_booked, execution, unexecuted, unfilled, check_crossing}
-use Rattle.rules.proofs.Executing.{good_lengths, total_fills, length_fills, gets_refused, gets_36, gets_rejected, gets_executed}
+use Rattle.rules.specs.Crossing.{Crossing, is_bought, crossing_price, is_bad_crossing, may_fill, fills_of, crossing_fills, is_booked, execution, unfilled, check_crossing}
+use Rattle.rules.proofs.Executing.{total_fills, length_fills, gets_refused, gets_36, gets_rejected, gets_executed}
 use Rattle.execution.specs.Bounds.{furthest}
 use Rattle.execution.proofs.Laws.{may_fill_at}
 use Rattle.crossing.specs.ByQuote.{crossed_by}
@@ -60,46 +59,14 @@ module _ (bid offer : Mills) (c : Crossing) {bought : Bool} {price far : Mills} 
       in
       cc (l, known_booked, g, h, s, t)
 
--- ---- by the quote check's answer `q`, with `fills` cleared
+-- ---- by the quote check's answer `q`
 
 module _ (q : QuoteAnswer) (bid offer : Mills) (c : Crossing) (room : ℕ) where
-  -- what is answered, and what is left in the lent fills
-  abbrev Given : CrossingAnswer → List ℕ → Type 0
-  Given r fills = record { answer = r; fills = fills } ≡ crossed_by q bid offer c room
-
-  nothing : {n cancel : ℕ} → crossed_by q bid offer c room ≡ unfilled room n cancel → {r : CrossingAnswer} {fills : List ℕ} → r ≡ unexecuted n cancel → fills ≡ replicate room 0 → Given r fills
-  nothing e f g = ap₂ (λ (r : CrossingAnswer) (fills : List ℕ). record { answer = r; fills = fills }) f g ∙ sym e
-
   -- by the three tests
   by_tests : (refused bad accepts : Bool) → is_refused q.number ≡ refused → is_bad_crossing room c ≡ bad → eqb q.number 0 ≡ accepts
       → crossed_by q bid offer c room ≡ cond refused (unfilled room q.number q.cancel) (cond bad (unfilled room 36 0) (cond accepts (execution room (crossing_price (is_bought c) bid offer) c) (unfilled room q.number q.cancel)))
   unfolding crossed_by
   by_tests refused bad accepts e f g = rw (e, f, g) refl
-
-  module _ {t : Bool} (tested : t ≡ is_refused q.number) {fills : List ℕ} (zeros : fills ≡ replicate room 0) where
-    pub refused : {r : CrossingAnswer} → t ≡ true → r ≡ unexecuted q.number q.cancel → Given r fills
-    refused h f = nothing (by_tests true (is_bad_crossing room c) (eqb q.number 0) (sym tested ∙ h) refl refl) f zeros
-
-    -- the list is held against the fills that are lent
-    module _ (h : t ≡ false) (long : length fills ≡ room) {b : Bool} (listed : b ≡ is_bad_crossing (length fills) c) where
-      known : is_bad_crossing room c ≡ b
-      known = sym (listed ∙ ap (λ (n : ℕ). is_bad_crossing n c) long)
-
-      pub listed_badly : {r : CrossingAnswer} → b ≡ true → r ≡ unexecuted 36 0 → Given r fills
-      listed_badly e f = nothing (by_tests false true (eqb q.number 0) (sym tested ∙ h) (known ∙ e) refl) f zeros
-
-      module _ (e : b ≡ false) where
-        pub rejected : {r : CrossingAnswer} → (q.number ≡ 0 → ⊥) → r ≡ unexecuted q.number q.cancel → Given r fills
-        rejected z f = nothing (by_tests false false false (sym tested ∙ h) (known ∙ e) (ne_eqb q.number 0 z)) f zeros
-
-        pub listed_well : (length c.sizes ≡ length c.prices) × (length c.prices ≤ length fills) × (fills ≡ replicate (length fills) 0)
-        listed_well = let l = good_lengths (length fills) c (sym listed ∙ e) in (l.0, l.2, zeros ∙ ap (λ (n : ℕ). replicate n 0) (sym long))
-
-        pub accepted : {r : CrossingAnswer} {filled : List ℕ} → q.number ≡ 0 → record { answer = r; fills = filled } ≡ execution (length fills) (crossing_price (is_bought c) bid offer) c → Given r filled
-        accepted z f =
-            f
-            ∙ ap (λ (n : ℕ). execution n (crossing_price (is_bought c) bid offer) c) long
-            ∙ sym (by_tests false false true (sym tested ∙ h) (known ∙ e) (eq-eqb q.number 0 z))
 
 -- ---- which is what the check gives
 

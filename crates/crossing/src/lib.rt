@@ -76,6 +76,7 @@ fn execute(
 
 // What a crossing quote gets, by the quote check's answer. What comes with it counts only where that check does not
 // refuse, and it executes only where that check accepts.
+#[tactic(auto, using(rules::proofs::Executing::good_lengths), unfolding(crate::specs::ByQuote::crossed_by))]
 pub fn cross(
     quote: QuoteAnswer,
     bid: Mills,
