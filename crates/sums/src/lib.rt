@@ -10,6 +10,7 @@ use choice::both;
 use digits::byte_of;
 
 // The sum modulo 256 of the bytes before the place `to`.
+#[tactic(auto, using(crate::proofs::Laws::sum_turn, crate::proofs::Laws::sum_end))]
 pub fn sum_before(message: &[u8], to: usize) -> u64
     requires { to ≤ length message.now }
     ensures { (result ≡ total (take to message.now) % 256) × (result < 256) }
@@ -24,6 +25,7 @@ pub fn sum_before(message: &[u8], to: usize) -> u64
 }
 
 // Whether a value is the sum in three digits.
+#[tactic(auto, unfolding(rules::specs::Numerals::numeral), using(crate::proofs::Laws::same_three, rules::proofs::Slices::other_length, rules::proofs::Tests::and_true))]
 pub fn is_sum(v: &[u8], sum: u64) -> bool
     requires { sum < 256 }
     ensures { result ≡ same_numbers v.now (numeral 10 48 3 sum) }
