@@ -7,7 +7,7 @@ use native.Mathlib.Omega.{arith}
 use native.Mathlib.Nat.{pow-zero, pow-suc, one-le-pow, pow-le-pow_right, le-mul_of_pos_right, add-mul}
 use native.Mathlib.Numerals.{add-one}
 use lib.ListN.{length, get_or, drop}
-use lib.Seq.{drop-cons, drop-length}
+use lib.Seq.{slice, take-length, drop-cons, drop-length}
 use lib.Dec.{eqb}
 use borrow.Author.Tests.{le-leb}
 use Rattle.rules.specs.Lists.{same_numbers}
@@ -23,6 +23,10 @@ one_byte v b h = sym (ap (λ l. same_numbers l (b ∷ [])) (whole_bytes 1 v h) �
 
 -- ---- a number
 
+-- all bytes, as the part that is tested
+pub whole_part : (v : List ℕ) → slice 0 (length v) v ≡ v
+whole_part v = take-length v
+
 pub record Number (v : List ℕ) : Type 0 where
   pub some : 1 ≤ length v
   pub few : length v ≤ 15
@@ -34,6 +38,9 @@ number_parts v h =
     let p = and_both _ _ h in
     let w = within_both 1 15 (length v) p.0 in
     record { some = w.0; few = w.1; digits = p.1 }
+
+pub number_digits : (v : List ℕ) → is_number v ≡ true → are_digits 10 48 v ≡ true
+number_digits v h = (number_parts v h).digits
 
 pub number_of_parts : {v : List ℕ} → Number v → is_number v ≡ true
 unfolding is_number
@@ -48,6 +55,10 @@ said_with n ds = n * 10 ^ length ds + value 10 48 ds
 
 pub front_below : (n : ℕ) (ds : List ℕ) → n ≤ said_with n ds
 front_below n ds = omega (arith, le-mul_of_pos_right n (one-le-pow (length ds) 10 (omega arith)))
+
+-- what is read of a number is at most the number
+pub read_below : (n : ℕ) (ds v : List ℕ) → said_with n ds ≡ value 10 48 v → is_number v ≡ true → n < 1000000000000000
+read_below n ds v e h = omega (arith, front_below n ds, number_below (number_parts v h))
 
 -- one digit more, as powers and as the loop has it
 horner : (n b p w : ℕ) → 48 ≤ b → (n * 10 + b - 48) * p + w ≡ n * (p * 10) + ((b - 48) * p + w)

@@ -10,6 +10,7 @@ use choice::both;
 use digits::are_digits;
 
 // Whether the value is this byte alone.
+#[tactic(auto, using(crate::proofs::Laws::one_byte, rules::proofs::Slices::other_length))]
 pub fn is_byte(v: &[u8], b: u8) -> bool
     ensures { result ≡ same_numbers v.now (b ∷ []) }
 {
@@ -27,6 +28,7 @@ pub fn is_one(v: &[u8]) -> bool
 }
 
 // Whether the value is a number: 1 to 15 digits.
+#[tactic(auto, unfolding(rules::specs::Fix::is_number), using(crate::proofs::Laws::whole_part))]
 pub fn is_number(v: &[u8]) -> bool
     ensures { result ≡ is_number v.now }
 {
@@ -35,6 +37,7 @@ pub fn is_number(v: &[u8]) -> bool
 }
 
 // The number that a value says.
+#[tactic(auto, using(crate::proofs::Laws::number_digits, crate::proofs::Laws::read_below, crate::proofs::Laws::digit_low, crate::proofs::Laws::digits_rest, crate::proofs::Laws::said_turn, crate::proofs::Laws::said_end))]
 pub fn number_of(v: &[u8]) -> u64
     requires { is_number v.now ≡ true }
     ensures { (result ≡ number_of v.now) × (result < 1000000000000000) }
@@ -49,6 +52,7 @@ pub fn number_of(v: &[u8]) -> u64
 }
 
 // The number of groups that the value of 555 says: none where it is no number.
+#[tactic(auto, unfolding(rules::specs::Fix::number_said))]
 pub fn number_said(v: &[u8]) -> u64
     ensures { (result ≡ number_said v.now) × (result < 1000000000000000) }
 {
