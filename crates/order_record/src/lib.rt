@@ -10,6 +10,7 @@ use leg_bytes::raw_leg;
 use rules::{Order, RawLeg, Terms};
 
 // Whether the counts are 8 bytes each, with 21 symbol bytes to each count.
+#[tactic(auto, using(crate::proofs::Laws::by_21))]
 pub fn are_whole(symbols: &[u8], counts: &[u8]) -> bool
     ensures { result ≡ are_whole symbols.now counts.now }
 {
@@ -20,6 +21,7 @@ pub fn are_whole(symbols: &[u8], counts: &[u8]) -> bool
 }
 
 // The order record of `n` legs. Each leg is stored in place: a record that is handed on is copied whole.
+#[tactic(auto, using(crate::proofs::Laws::none_stored, crate::proofs::Laws::stored, crate::proofs::Laws::all_stored))]
 pub fn order_of(symbols: &[u8], counts: &[u8], n: usize, terms: Terms) -> Order
     requires { (n ≤ 16) × (length symbols.now ≡ 21 * n) × (length counts.now ≡ 8 * n) }
     ensures { Recorded n (raw_legs n symbols.now counts.now) terms result }
