@@ -15,14 +15,14 @@ use Rattle.rules.specs.Valid.{InRange}
 use Rattle.rules.proofs.Tests.{and_true, and_both, and_of, same_test, same_eq}
 use Rattle.laws.proofs.Sorting.{some_pair_perm, map_perm}
 use Rattle.laws.proofs.Sequence.{eqb_turn}
-use Rattle.loops.proofs.Finding.{step, any_turn}
+use Rattle.loops.proofs.Finding.{step, any_turn, any_end, pair_turn, pair_end}
 use Rattle.sorting.specs.Keys.{sort_keys, with_places, EachTwo}
 use Rattle.sorting.proofs.Laws.{sort_same, sort_ascends}
 use Rattle.keys.specs.Tags.{key_of, tag_of, place_of, key_in, Placed}
 use Rattle.arranging.proofs.Back.{key_tells, tag_half}
 use Rattle.arranging.proofs.Valid.{root_of, one_root, equal_series}
 use Rattle.arranging.proofs.Zip.{zip_length, zip_at, zip_take}
-use Rattle.series_refusals.specs.Twice.{is_one_key, some_next, no_key, with_root, keys_of, is_same_key}
+use Rattle.series_refusals.specs.Twice.{is_one_key, some_next, no_key, with_root, keys_of, is_same_key, stands_again}
 
 -- ---- neighbours
 
@@ -63,6 +63,13 @@ module _ (ps : List ℕ) (n : ℕ) (few : n ≤ 16) (full : length ps ≡ 16) (i
       let here : i - 1 + 1 ≡ i = omega arith in
       rw (back, step 0 ps n fits (i - 1) (omega arith), here, step 0 ps n fits i k, e)
 
+  -- two neighbours of one key are found, and others passed over
+  pub next_found : 1 ≤ i → i < n → key_in (get_or ps (i - 1) 0) ≡ key_in (get_or ps i 0) → true ≡ some_next (drop (i - 1) (take n ps))
+  next_found h k e = next_turn true h k (sym (eq-eqb _ _ e))
+
+  pub next_passed : (j : ℕ) → j ≡ i + 1 → 1 ≤ i → i < n → (key_in (get_or ps (i - 1) 0) ≡ key_in (get_or ps i 0) → ⊥) → some_next (drop (j - 1) (take n ps)) ≡ some_next (drop (i - 1) (take n ps))
+  next_passed j a h k e = rw a (next_turn false h k (sym (ne_eqb _ _ e)))
+
   pub next_end : n ≤ i → false ≡ some_next (drop (i - 1) (take n ps))
   unfolding some_next
   next_end h = short (drop (i - 1) (take n ps)) (omega (arith, length-drop (i - 1) (take n ps), length-take-le n ps fits))
@@ -100,6 +107,28 @@ module _ (places roots : List ℕ) (full : length places ≡ 16) (rooted : lengt
   again_turn at i h l r k m e f g =
       let there : (j : ℕ) → j < n → get_or ks j no_key ≡ with_root (get_or places j 0) (get_or roots j 0) = λ j b. zip_at with_root places roots j 0 0 no_key (omega arith) (omega arith) in
       any_turn no_key ks n keys_fit (is_same_key (get_or ks at no_key)) false r i l (rw (there at h, there i l, g, e, f))
+
+  -- the key that stands again is found, and others are passed over
+  pub again_found : (at i : ℕ) → at < n → i < n → (k m : ℕ) → k ≡ key_in (get_or places at 0) → m ≡ key_in (get_or places i 0) → eqb k m && eqb (get_or roots at 0) (get_or roots i 0) ≡ true
+      → true ≡ any (is_same_key (get_or ks at no_key)) (drop i (take n ks))
+  again_found at i h l k m e f g = again_turn at i h l true k m e f (sym g)
+
+  pub again_passed : (at i j : ℕ) → j ≡ i + 1 → at < n → i < n → (k m : ℕ) → k ≡ key_in (get_or places at 0) → m ≡ key_in (get_or places i 0) → eqb k m && eqb (get_or roots at 0) (get_or roots i 0) ≡ false
+      → any (is_same_key (get_or ks at no_key)) (drop j (take n ks)) ≡ any (is_same_key (get_or ks at no_key)) (drop i (take n ks))
+  again_passed at i j a h l k m e f g = rw a (again_turn at i h l false k m e f (sym g))
+
+  pub again_none : (at i : ℕ) → n ≤ i → false ≡ any (is_same_key (get_or ks at no_key)) (drop i (take n ks))
+  again_none at i h = sym (any_end no_key ks n keys_fit (is_same_key (get_or ks at no_key)) false i h)
+
+  -- where a key stands again two are found, and others are passed over
+  pub two_found : (i : ℕ) → i < n → stands_again n i ks ≡ true → true ≡ some_pair is_same_key (drop i (take n ks))
+  two_found i h e = pair_turn no_key ks n keys_fit is_same_key false true i h (sym e)
+
+  pub two_passed : (i j : ℕ) → j ≡ i + 1 → i < n → stands_again n i ks ≡ false → some_pair is_same_key (drop j (take n ks)) ≡ some_pair is_same_key (drop i (take n ks))
+  two_passed i j a h e = rw a (pair_turn no_key ks n keys_fit is_same_key false false i h (sym e))
+
+  pub two_none : (i : ℕ) → n ≤ i → false ≡ some_pair is_same_key (drop i (take n ks))
+  two_none i h = sym (pair_end no_key ks n keys_fit is_same_key false i h)
 
 -- ---- the legs that the places say
 

@@ -10,6 +10,7 @@ use keys::key_in;
 use sorting::sort;
 
 // Whether two neighbours have one key.
+#[tactic(auto, using(crate::proofs::Laws::next_found, crate::proofs::Laws::next_passed, crate::proofs::Laws::next_end))]
 fn some_next(places: &[u64; 16], n: usize) -> bool
     requires { (n ≤ 16) × (length places.now ≡ 16) }
     ensures { result ≡ some_next (take n places.now) }
@@ -25,6 +26,7 @@ fn some_next(places: &[u64; 16], n: usize) -> bool
 }
 
 // Whether the series at `at` stands again behind it.
+#[tactic(auto, using(crate::proofs::Laws::again_found, crate::proofs::Laws::again_passed, crate::proofs::Laws::again_none))]
 fn stands_again(places: &[u64; 16], roots: &[u64; 16], n: usize, at: usize) -> bool
     requires { (n ≤ 16) × (at < n) × (length places.now ≡ 16) × (length roots.now ≡ 16) }
     ensures { result ≡ stands_again n at (keys_of places.now roots.now) }
@@ -42,6 +44,7 @@ fn stands_again(places: &[u64; 16], roots: &[u64; 16], n: usize, at: usize) -> b
 }
 
 // Whether some two have one key and one root.
+#[tactic(auto, using(crate::proofs::Laws::two_found, crate::proofs::Laws::two_passed, crate::proofs::Laws::two_none))]
 fn some_two(places: &[u64; 16], roots: &[u64; 16], n: usize) -> bool
     requires { (n ≤ 16) × (length places.now ≡ 16) × (length roots.now ≡ 16) }
     ensures { result ≡ some_pair is_same_key (take n (keys_of places.now roots.now)) }
@@ -58,6 +61,7 @@ fn some_two(places: &[u64; 16], roots: &[u64; 16], n: usize) -> bool
 
 // Sorts the places, unless roots differ, and says whether a series stands twice. Once sorted, a series that stands
 // twice stands in neighbours. A place does not say its root: where roots differ every two legs are compared.
+#[tactic(auto, using(crate::proofs::Laws::of_several, crate::proofs::Laws::of_one))]
 pub fn sorted_twice(places: &mut [u64; 16], roots: &[u64; 16], n: usize, other: bool) -> bool
     requires { (n ≤ 16) × (length places.old ≡ 16) × (length roots.now ≡ 16) }
     ensures { SortedTwice n other places.old roots.now places.new result }
