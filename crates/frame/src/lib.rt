@@ -38,6 +38,7 @@ pub struct Tail {
 }
 
 // Whether a value is the text.
+#[tactic(auto, using(crate::proofs::Laws::text_differs, crate::proofs::Laws::text_turn, crate::proofs::Laws::text_end, rules::proofs::Slices::other_length))]
 fn is_text(v: &[u8], text: &[u8]) -> bool
     ensures { result ≡ same_numbers v.now text.now }
 {
@@ -56,6 +57,7 @@ fn is_text(v: &[u8], text: &[u8]) -> bool
 }
 
 // Whether a field has this tag and this text.
+#[tactic(auto, using(fields::proofs::Laws::lent_value))]
 fn says(message: &[u8], f: Field, tag: u64, text: &[u8]) -> bool
     requires { Inside (length message.now) f }
     ensures { result ≡ eqb f.tag tag && same_numbers (value_in message.now f) text.now }
@@ -66,6 +68,7 @@ fn says(message: &[u8], f: Field, tag: u64, text: &[u8]) -> bool
 }
 
 // What these fields say, as the first three of a message.
+#[tactic(auto, using(fields::proofs::Laws::lent_value), unfolding(crate::specs::Frame::head_from))]
 fn head_from(message: &[u8], f8: Field, f9: Field, f35: Field) -> Head
     requires { let n = length message.now in Inside n f8 × Inside n f9 × Inside n f35 }
     ensures { result ≡ head_from message.now f8 f9 f35 }
@@ -84,6 +87,7 @@ fn head_from(message: &[u8], f8: Field, f9: Field, f35: Field) -> Head
 }
 
 // The first three fields of a message.
+#[tactic(auto, using(crate::proofs::Laws::inside), unfolding(crate::specs::Frame::head_of))]
 pub fn head_of(message: &[u8]) -> Head
     ensures { result ≡ head_of message.now }
 {
@@ -94,6 +98,7 @@ pub fn head_of(message: &[u8]) -> Head
 }
 
 // A field at the place `at`, behind field 35.
+#[tactic(auto, unfolding(crate::specs::Frame::tail_step))]
 pub fn tail_step(t: Tail, at: usize, f: Field) -> Tail
     ensures { result ≡ tail_step t at f }
 {
