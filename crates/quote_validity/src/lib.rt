@@ -20,6 +20,7 @@ pub struct QuoteRead {
     pub series: Series,
 }
 
+#[tactic(auto, unfolding(rules::specs::Quote::is_bad_quote))]
 fn is_bad_quote(bid: Mills, offer: Mills) -> bool
     ensures { result ≡ is_bad_quote bid offer }
 {
