@@ -1,7 +1,7 @@
 // The entry for FIX messages of a login: document 02, S-1 and S-6.
 ghost use Rattle.std.specs.Prelude.{◌≡◌};
 ghost use Rattle.rules.specs.Market.{settings_of, market_of};
-ghost use Rattle.rules.specs.Tally.{message as messageCall};
+ghost use Rattle.rules.specs.Tally.{message as message_call};
 ghost use Rattle.rules.specs.Session.{check_in_session};
 
 use fix_check::check_fix;
@@ -22,7 +22,7 @@ pub extern "C" fn opc_check_fix_session(
     shape: &mut u64,
     pairings: &mut u64,
 ) -> u64
-    ensures { record { answer = record { number = result; class = class.new; shape = shape.new; pairings = pairings.new }; session = session.new } ≡ check_in_session session.old login (messageCall (record { settings = settings_of settings.now; market = market_of market.now; stop = stop; manual = manual; opening = opening }) message.now) }
+    ensures { record { answer = record { number = result; class = class.new; shape = shape.new; pairings = pairings.new }; session = session.new } ≡ check_in_session session.old login (message_call (record { settings = settings_of settings.now; market = market_of market.now; stop = stop; manual = manual; opening = opening }) message.now) }
 {
     let turned = turned_away(true, session, login);
     if turned != 0 {

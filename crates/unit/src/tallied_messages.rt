@@ -1,7 +1,7 @@
 // The entry for FIX messages that are tallied: document 02, S-1.
 ghost use Rattle.std.specs.Prelude.{◌≡◌};
 ghost use Rattle.rules.specs.Market.{settings_of, market_of};
-ghost use Rattle.rules.specs.Tally.{message as messageCall, check_tallied};
+ghost use Rattle.rules.specs.Tally.{message as message_call, check_tallied};
 
 use fix_check::check_fix;
 use rules::Tally;
@@ -24,7 +24,7 @@ pub extern "C" fn opc_check_fix_tallied(
     accepted: &mut u64,
     rejected: &mut u64,
 ) -> u64
-    ensures { record { answer = record { number = result; class = class.new; shape = shape.new; pairings = pairings.new }; tally = record { seen = seen.new; refused = refused.new; accepted = accepted.new; rejected = rejected.new } } ≡ check_tallied (record { seen = seen.old; refused = refused.old; accepted = accepted.old; rejected = rejected.old }) (messageCall (record { settings = settings_of settings.now; market = market_of market.now; stop = stop; manual = manual; opening = opening }) message.now) }
+    ensures { record { answer = record { number = result; class = class.new; shape = shape.new; pairings = pairings.new }; tally = record { seen = seen.new; refused = refused.new; accepted = accepted.new; rejected = rejected.new } } ≡ check_tallied (record { seen = seen.old; refused = refused.old; accepted = accepted.old; rejected = rejected.old }) (message_call (record { settings = settings_of settings.now; market = market_of market.now; stop = stop; manual = manual; opening = opening }) message.now) }
 {
     let before = Tally {
         seen: *seen,
