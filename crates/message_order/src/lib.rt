@@ -13,6 +13,7 @@ use number_values::{is_one, number_of};
 use rules::{Order, RawLeg, Terms};
 
 // The leg of a group's three fields.
+#[tactic(auto, using(fields::proofs::Laws::lent_value))]
 fn leg_said(message: &[u8], symbol: Field, ratio: Field, side: Field) -> RawLeg
     requires { IsGroup message.now symbol ratio side }
     ensures { result ≡ leg_of_fields message.now symbol ratio side }
