@@ -14,10 +14,10 @@ use Rattle.rules.specs.Limits.{within}
 use Rattle.rules.specs.Numerals.{value, are_digits}
 use Rattle.rules.specs.Symbol.{is_digit}
 use Rattle.rules.specs.Order.{price_of}
-use Rattle.rules.specs.Fix.{leading_digits, has_minus, are_decimals, is_amount, mills_of}
+use Rattle.rules.specs.Fix.{is_number, leading_digits, has_minus, are_decimals, is_amount, mills_of}
 use Rattle.rules.proofs.Numerals.{value_below}
 use Rattle.rules.proofs.Tests.{and_both, and_of, within_both}
-use Rattle.number_values.proofs.Laws.{Number}
+use Rattle.number_values.proofs.Laws.{Number, number_parts, number_of_parts}
 
 -- ---- the digits at the front
 
@@ -65,7 +65,7 @@ pub some_minus : (v : List ℕ) → has_minus v ≡ true → 1 ≤ length v
 some_minus [] h = absurd (true≢false (sym h))
 some_minus (x ∷ xs) h = omega arith
 
-leading_few : (v : List ℕ) → leading_digits v ≤ length v
+pub leading_few : (v : List ℕ) → leading_digits v ≤ length v
 unfolding leading_digits
 leading_few [] = omega arith
 leading_few (b ∷ bs) = go (is_digit b) (leading_few bs)
@@ -107,13 +107,38 @@ decimal_parts b ds d =
 pub behind_point : (v : List ℕ) (k : ℕ) → k < length v → are_decimals (drop k v) ≡ true → Number (drop (k + 1) v) × (length (drop (k + 1) v) ≤ 3)
 behind_point v k h d = rw add-one (decimal_parts (get_or v k 0) (drop (suc k) v) (rw (drop-cons v k 0 h) at d))
 
+-- the digits before the point, and those behind it, are numbers
+pub whole_digits : (v : List ℕ) → is_amount v ≡ true → is_number (take (leading_digits v) v) ≡ true
+whole_digits v h = number_of_parts (amount_parts v h).whole
+
+pub behind_digits : (v : List ℕ) (k : ℕ) → k ≡ leading_digits v → k < length v → is_amount v ≡ true
+    → (is_number (take (length v - (k + 1)) (drop (k + 1) v)) ≡ true) × (length (take (length v - (k + 1)) (drop (k + 1) v)) ≤ 3)
+behind_digits v k e h d =
+    let l : leading_digits v < length v = omega arith in
+    let n = behind_point v (leading_digits v) l (amount_parts v d).rest in
+    rw (rest_of v (k + 1), e) (number_of_parts n.0, n.1)
+
 pub no_point : (v : List ℕ) → leading_digits v ≡ length v → value 10 48 (take (leading_digits v) v) * 1000 ≡ mills_of v
 unfolding mills_of value
 no_point v e = let l : length v ≤ leading_digits v + 1 = omega arith in rw (drop_of_length-le v {i = leading_digits v + 1} l) (omega arith)
 
 -- as many digits as `k` behind the point
-pub scaled : (v : List ℕ) (k : ℕ) → Number v → length v ≡ k → (value 10 48 v * 10 ^ (3 - length v) ≡ value 10 48 v * 10 ^ (3 - k)) × (value 10 48 v < 10 ^ k)
+scaled : (v : List ℕ) (k : ℕ) → Number v → length v ≡ k → (value 10 48 v * 10 ^ (3 - length v) ≡ value 10 48 v * 10 ^ (3 - k)) × (value 10 48 v < 10 ^ k)
 scaled v k n e = (rw e, rw e at (value_below 10 48 (omega arith) v n.digits))
+
+module _ (v : List ℕ) (h : is_number v ≡ true) (r : ℕ) (e : r ≡ value 10 48 v) where
+  pub one_digit : length v ≡ 1 → (r * 100 ≡ value 10 48 v * 10 ^ (3 - length v)) × (r * 100 < 1000)
+  one_digit l = let s = scaled v 1 (number_parts v h) l in (omega (arith, s.0), omega (arith, s.1))
+
+  pub two_digits : length v ≡ 2 → (r * 10 ≡ value 10 48 v * 10 ^ (3 - length v)) × (r * 10 < 1000)
+  two_digits l = let s = scaled v 2 (number_parts v h) l in (omega (arith, s.0), omega (arith, s.1))
+
+  pub three_digits : length v ≤ 3 → (length v ≡ 1 → ⊥) → (length v ≡ 2 → ⊥) → (r ≡ value 10 48 v * 10 ^ (3 - length v)) × (r < 1000)
+  three_digits l x y =
+      let n = number_parts v h in
+      let l3 : length v ≡ 3 = omega (arith, n.some) in
+      let s = scaled v 3 n l3 in
+      (omega (arith, s.0), omega (arith, s.1))
 
 -- a price of so many mills with a minus: zero is no price received
 pub negative : (n : ℕ) → record { received = ltb 0 n; size = record { 0 = n } } ≡ price_of (neg_ℤ (pos n))

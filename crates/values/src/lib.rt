@@ -19,6 +19,7 @@ fn is_one_or_two(v: &[u8]) -> bool
 }
 
 // How many digits stand at the front.
+#[tactic(auto, using(crate::proofs::Laws::digit_passed, crate::proofs::Laws::low_stops, crate::proofs::Laws::high_stops, crate::proofs::Laws::end_stops))]
 fn leading_digits(v: &[u8]) -> usize
     ensures { (result ≡ leading_digits v.now) × (result ≤ length v.now) }
 {
@@ -37,6 +38,7 @@ fn leading_digits(v: &[u8]) -> usize
 }
 
 // Whether the bytes are none, or a point and one to three digits.
+#[tactic(auto, using(crate::proofs::Laws::no_decimals, crate::proofs::Laws::decimals))]
 fn are_decimals(v: &[u8]) -> bool
     ensures { result ≡ are_decimals v.now }
 {
@@ -48,6 +50,7 @@ fn are_decimals(v: &[u8]) -> bool
 }
 
 // Whether the bytes are dollars without a sign: 1 to 15 digits, and perhaps decimals.
+#[tactic(auto, unfolding(rules::specs::Fix::is_amount), using(crate::proofs::Laws::rest_of))]
 fn is_amount(v: &[u8]) -> bool
     ensures { result ≡ is_amount v.now }
 {
@@ -55,6 +58,7 @@ fn is_amount(v: &[u8]) -> bool
     both(both(1 <= k, k <= 15), are_decimals(&v[k..]))
 }
 
+#[tactic(auto, using(crate::proofs::Laws::no_minus))]
 fn has_minus(v: &[u8]) -> bool
     ensures { result ≡ has_minus v.now }
 {
@@ -65,6 +69,7 @@ fn has_minus(v: &[u8]) -> bool
 }
 
 // Whether the value is a price: dollars, with a minus or none.
+#[tactic(auto, unfolding(rules::specs::Fix::is_price), using(crate::proofs::Laws::rest_of, crate::proofs::Laws::some_minus))]
 fn is_price(v: &[u8]) -> bool
     ensures { result ≡ is_price v.now }
 {
@@ -75,6 +80,7 @@ fn is_price(v: &[u8]) -> bool
 }
 
 // Whether a value has the form of its tag. Most tags are further ones, which have none.
+#[tactic(auto, unfolding(rules::specs::Fix::has_form))]
 pub fn has_form(tag: u64, v: &[u8]) -> bool
     ensures { result ≡ has_form tag v.now }
 {
@@ -103,6 +109,7 @@ fn decimal_mills(v: &[u8]) -> u64
 }
 
 // The mills that dollars without a sign say.
+#[tactic(auto, unfolding(rules::specs::Fix::mills_of), using(crate::proofs::Laws::whole_digits, crate::proofs::Laws::no_point, crate::proofs::Laws::rest_of, crate::proofs::Laws::leading_few))]
 fn mills_of(v: &[u8]) -> u64
     requires { is_amount v.now ≡ true }
     ensures { (result ≡ mills_of v.now) × (result < 1000000000000000000) }
@@ -117,6 +124,7 @@ fn mills_of(v: &[u8]) -> u64
 }
 
 // The price that the value of 44 says. A minus before zero says the price 0.
+#[tactic(auto, unfolding(rules::specs::Fix::is_price, rules::specs::Fix::price_said, rules::specs::Order::price_of), using(crate::proofs::Laws::rest_of, crate::proofs::Laws::some_minus, crate::proofs::Laws::negative))]
 pub fn price_said(v: &[u8]) -> Price
     requires { is_price v.now ≡ true }
     ensures { result ≡ price_of (price_said v.now) }
