@@ -1,39 +1,28 @@
--- One leg: its symbol's length, its root and its tag.
-use mathlib.Core.Path.{◌≡◌, refl, sym, ap, ◌∙◌}
+-- One leg: its root and its tag.
+use mathlib.Core.Path.{◌≡◌, refl, sym, ap, subst, ◌∙◌}
 use mathlib.Core.List.{List, [], ◌∷◌}
 use mathlib.Core.Bool.{Bool, true, false, cond, not}
-use Prim.Native.Nat.{ℕ, zero, suc, ◌+◌, ◌*◌, ◌^◌, ◌≤◌, ◌<◌}
+use Prim.Native.Nat.{ℕ, ◌+◌, ◌*◌, ◌^◌, ◌≤◌, ◌<◌}
 use native.Mathlib.Omega.{arith}
-use lib.ListN.{length, get_or, length-map}
+use lib.ListN.{length}
+use lib.Seq.{slice}
 use lib.Dec.{eqb}
 use borrow.Author.Tests.{not-false, le-leb, lt-ltb, ne_eqb}
-use mir.Val.{Val}
-use borrow.Kind.Array.{e_struct}
-use denote.Array.{each}
-use denote.Shadow.{shadow}
 use Rattle.rules.specs.declared.Series.{Series}
 use Rattle.rules.specs.declared.SymbolRead.{SymbolRead}
 use Rattle.rules.specs.declared.RawLeg.{RawLeg}
 use Rattle.rules.specs.Lists.{All}
 use Rattle.rules.specs.Numerals.{value, numeral, are_digits}
 use Rattle.rules.specs.Symbol.{is_root, parts_of, is_symbol, read_symbol}
-use Rattle.rules.specs.Order.{series_of, leg_of, no_raw_leg}
+use Rattle.rules.specs.Order.{series_of, leg_of}
 use Rattle.rules.specs.Pairing.{digit}
 use Rattle.rules.specs.Valid.{InRange}
-use Rattle.rules.specs.contracts.RawLeg.{the_type}
-use Rattle.rules.proofs.RawLeg.TheLaws.{the_laws, the_copy}
 use Rattle.rules.proofs.Numerals.{numeral_value, value_below}
+use Rattle.rules.proofs.Slices.{bytes_at}
 use Rattle.rules.proofs.Symbols.{limits, laid, parts_in_layout, read_outside}
-use Rattle.symbol.proofs.Laws.{parts_small, read_good}
+use Rattle.symbol.proofs.Laws.{root_bytes, root_tested, parts_small, read_good}
 use Rattle.keys.specs.Tags.{key_of, tag_of}
 use Rattle.leg_tag.specs.Known.{IsKnown, tag_at}
-
--- what owning an array of raw legs tells of it: each symbol has 21 bytes
-pub symbol_length : (rs : List RawLeg) (us : List Val) (i : ℕ) → i < length rs → shadow (each (e_struct the_type the_laws the_copy).ty.Denot (e_struct the_type the_laws the_copy).ty.own rs us) → length (get_or rs i no_raw_leg).symbol ≡ 21
-symbol_length [] us i h p = absurd (omega (arith, h))
-symbol_length (r ∷ rs) [] i h p = absurd p
-symbol_length (r ∷ rs) (u ∷ us) zero h p = sym (length-map r.symbol _) ∙ p.0.1.1.1.1.0.1.0.1
-symbol_length (r ∷ rs) (u ∷ us) (suc i) h p = symbol_length rs us i (omega (arith, h)) p.1
 
 -- six bytes that say a known root's number are its bytes
 byte_digits : (bs : List ℕ) → All (λ b. b < 256) bs → are_digits 256 0 bs ≡ true
@@ -48,7 +37,27 @@ root_again bs l h known =
     let below : value 256 0 bs < 256 ^ 6 = rw l at (value_below 256 0 (omega arith) bs d) in
     ap is_root (sym same) ∙ known below
 
+-- the same of six bytes one by one
+module _ (b0 b1 b2 b3 b4 b5 : ℕ) where
+  abbrev six : List ℕ
+  six = b0 ∷ b1 ∷ b2 ∷ b3 ∷ b4 ∷ b5 ∷ []
+
+  pub six_known : (root known : ℕ) → root ≡ value 256 0 six → root ≡ known → IsKnown known → b0 < 256 → b1 < 256 → b2 < 256 → b3 < 256 → b4 < 256 → b5 < 256 → true ≡ is_root six
+  six_known root known e f k h0 h1 h2 h3 h4 h5 =
+      sym (root_again six refl (h0, (h1, (h2, (h3, (h4, (h5, tt)))))) (subst IsKnown (sym f ∙ e) k))
+
 module _ (s : List ℕ) (long : length s ≡ 21) where
+  -- what is said of the bytes of the root
+  pub root_counted : (root : ℕ) → root ≡ value 256 0 (slice 0 6 s) → root ≡ value 256 0 (bytes_at 6 0 s)
+  root_counted root e = e ∙ ap (value 256 0) (root_bytes s long)
+
+  pub root_good : is_root (bytes_at 6 0 s) ≡ true → is_root (slice 0 6 s) ≡ true
+  root_good h = root_tested s long refl h
+
+  pub root_bad : is_root (bytes_at 6 0 s) ≡ false → is_symbol s ≡ false
+  unfolding is_symbol
+  root_bad h = rw (root_tested s long refl h)
+
   pub root_known : is_symbol s ≡ true → IsKnown (parts_of s).root
   root_known h = λ w. (laid (parts_of s) (parts_in_layout s long h)).1
 
@@ -62,19 +71,30 @@ module _ (s : List ℕ) (long : length s ≡ 21) where
 
 -- what the reader gives
 module _ (s : List ℕ) (r : SymbolRead) (read : r ≡ read_symbol s) where
+  -- the number says whether the bytes are in the layout
+  pub read_bad : length s ≡ 21 → (r.number ≡ 0 → ⊥) → is_symbol s ≡ false
+  read_bad long h = go (is_symbol s) refl
+    where
+      go : (t : Bool) → is_symbol s ≡ t → is_symbol s ≡ false
+      go true e = absurd (h (ap (λ (x : SymbolRead). x.number) (read ∙ read_good s long e)))
+      go false e = e
+
+  pub read_symbols : length s ≡ 21 → r.number ≡ 0 → is_symbol s ≡ true
+  read_symbols long h = go (is_symbol s) refl
+    where
+      go : (t : Bool) → is_symbol s ≡ t → is_symbol s ≡ true
+      go true e = e
+      go false e = absurd (omega (arith, h, ap (λ (x : SymbolRead). x.number) (read ∙ read_outside s long e)))
+
+  pub read_parts : length s ≡ 21 → r.number ≡ 0 → r.parts ≡ parts_of s
+  read_parts long h = ap (λ (x : SymbolRead). x.parts) (read ∙ read_good s long (read_symbols long h))
+
   pub read_small : (r.parts.year ≤ 2099) × (r.parts.month ≤ 12) × (r.parts.day ≤ 31)
   read_small = let p = parts_small s in rw read (p.0, p.1, p.2)
 
   module _ (x : Series) (e : x ≡ series_of r.parts) where
     pub read_range : InRange x
     read_range = let p = parts_small s in rw (e, read) (record { expiry = omega (arith, p.0, p.1, p.2); strike = p.3 })
-
-    pub read_tag : length s ≡ 21 → (bought b : Bool) → eqb r.number 0 ≡ b → cond b (key_of false x * 2 + digit bought) 0 ≡ tag_at s bought
-    read_tag long bought b f = go (is_symbol s) refl
-      where
-        go : (t : Bool) → is_symbol s ≡ t → cond b (key_of false x * 2 + digit bought) 0 ≡ cond t (key_of false (series_of (parts_of s)) * 2 + digit bought) 0
-        go true h = rw (← f, e, read, read_good s long h)
-        go false h = rw (← f, e, read, read_outside s long h)
 
 module _ (raw : RawLeg) where
   pub tested : length raw.symbol ≡ 21 → {n : ℕ} {b : Bool} → n ≡ tag_at raw.symbol raw.bought → eqb n 0 ≡ b → not (is_symbol raw.symbol) ≡ b
