@@ -40,6 +40,7 @@ fn answered_quote(resting: u64, number: u64) -> QuoteAnswer
 }
 
 // The quote check on the host's bytes. A refusal leaves the resting quote alone.
+#[tactic(auto, using(quote_validity::proofs::Laws::not_refused, crate::proofs::Laws::quote_refused, crate::proofs::Laws::quote_valid))]
 fn check_quote(
     symbol: &[u8],
     bid: Mills,
