@@ -21,7 +21,7 @@ fn search(tags: &[u64; 16], left: &mut [u64; 16], i: usize, n: usize, s: Step) -
     requires counts { Counts tags.now left.old n i (i + 1) s.figure × OneSideOpen tags.now left.old n i
         × (shows_other s.figure (sign (is_bought (get_or tags.now i 0))) ≡ true) }
     ensures reaches { Reaches tags.now left.old left.new i n (tally_of s) (tally_of result) }
-    ensures counts_2 { Counts tags.now left.new n i (i + 1) result.figure × (result.group ≡ s.group) }
+    ensures counts_after { Counts tags.now left.new n i (i + 1) result.figure × (result.group ≡ s.group) }
 {
     let sign = sign_of(tags[i]);
     let mut x = left[i];
@@ -46,7 +46,7 @@ fn reach(tags: &[u64; 16], left: &mut [u64; 16], i: usize, n: usize, s: Step) ->
     requires in_sequence { InSequence n tags.now left.old × (i < n) × (s.debits + s.credits < 900) }
     requires stands { Stands tags.now left.old n (i + 1) s × OneSideOpen tags.now left.old n i }
     ensures reaches { Reaches tags.now left.old left.new i n (tally_of s) (tally_of result) }
-    ensures stands_2 { Stands tags.now left.new n i result }
+    ensures stands_after { Stands tags.now left.new n i result }
 {
     let tx = tags[i];
     let sign = sign_of(tx);

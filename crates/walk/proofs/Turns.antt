@@ -1,0 +1,149 @@
+-- The search of the leg at `i`: what its loop still has to meet, after what it has met, gives what the definition gives;
+-- the figure is what is open.
+use mathlib.Core.Path.{◌≡◌, refl, sym, ap, ap₂, ◌∙◌}
+use mathlib.Core.Logic.{◌⊎◌, inl, inr}
+use mathlib.Core.List.{List}
+use mathlib.Core.Bool.{Bool, true, false, not, ◌&&◌}
+use Prim.Native.Nat.{ℕ, ◌≤◌, ◌-◌, ◌<◌, ◌+◌, min}
+use native.Mathlib.Nat.{pos_of_ne-zero}
+use native.Mathlib.Omega.{arith}
+use lib.IntN.{ℤ, nat_abs}
+use lib.ListN.{length, get_or, set}
+use lib.Dec.{eqb}
+use borrow.Author.Tests.{eqb-true, eqb-false}
+use mir.Syntax.{w64}
+use mir.Val.{to_z, of_z}
+use Rattle.rules.specs.OpenContracts.{sign, shows_other, open_contracts}
+use Rattle.rules.proofs.Tests.{and_both, not_eq}
+use Rattle.open_contracts.proofs.Searching as searching
+use Rattle.open_contracts.proofs.Searching.{Searching}
+use Rattle.figure.proofs.Small.{held}
+use Rattle.keys.specs.Tags.{is_bought, leg_at}
+use Rattle.tagged.specs.declared.PairTally.{PairTally}
+use Rattle.tagged.specs.declared.Step.{Step}
+use Rattle.tagged.specs.Tags.{together, matched_at, tally_of, InSequence, Counts, OneSideOpen, Meets, Reaches, legs_from_on, series_in}
+use Rattle.tagged.proofs.Signs.{sign_small}
+use Rattle.matching.proofs.Meeting.{sign_read}
+use Rattle.tagged.proofs.Tagging.{matched_again, note_few}
+use Rattle.tagged.proofs.Numbered.{tag_at_small, inner, inner_turn, inner_skip, inner_legs, inner_tally}
+use Rattle.tagged.proofs.Figures.{sequence_set, count_at, put_before, figure_fits, inside, meets, passed, met}
+
+-- what the loop keeps: `left₀` and `s` as the search began, `left` and `r` now, with `x` contracts left and `j` next
+pub record Turned (tags left₀ left : List ℕ) (n i : ℕ) (s r : Step) (x j : ℕ) : Type 0 where
+  pub same : (root : ℕ) (second : Bool) → inner tags n second root left (tally_of r) (get_or tags i 0) x j ≡ inner tags n second root left₀ (tally_of s) (get_or tags i 0) (get_or left₀ i 0) (i + 1)
+  pub searching : (root : ℕ) (second : Bool) → Searching (together second) (leg_at root second (get_or tags i 0) x) (legs_from_on root tags left n second (i + 1)) (legs_from_on root tags left n second j) r.figure
+  pub sequence : InSequence n tags left
+  pub past : i < j
+  pub within : j ≤ n
+  pub few : x ≤ 10000
+  pub pairs : r.debits + r.credits + i < s.debits + s.credits + j
+  pub group : r.group ≡ s.group
+
+pub begins : (tags left : List ℕ) (n i : ℕ) (s : Step) → InSequence n tags left → i < n → Counts tags left n i (i + 1) s.figure → OneSideOpen tags left n i
+    → Turned tags left left n i s s (get_or left i 0) (i + 1)
+begins tags left n i s q h counts one = record {
+  same = λ root second. refl;
+  searching = λ root second. searching.start (together second) (leg_at root second (get_or tags i 0) (get_or left i 0)) (legs_from_on root tags left n second (i + 1)) s.figure (counts root second) (one root second);
+  sequence = q;
+  past = omega arith;
+  within = omega arith;
+  few = count_at tags left n q i h;
+  pairs = omega arith;
+  group = refl;
+}
+
+module _ {tags left₀ left : List ℕ} {n i : ℕ} {s r : Step} {x j : ℕ} (h : i < n) (v : Turned tags left₀ left n i s r x j) where
+  abbrev tx : ℕ
+  tx = get_or tags i 0
+
+  abbrev y : ℕ
+  y = get_or left j 0
+
+  figure_small : nat_abs r.figure ≤ 160000
+  figure_small = rw (v.searching 0 false).figure (figure_fits tags left n v.sequence false 0 (series_in tags false i) (i + 1))
+
+  figure_read : to_z w64 (of_z w64 r.figure) ≡ r.figure
+  figure_read = held r.figure (omega (arith, figure_small))
+
+  -- the loop's test: `sgn` is the leg's sign, as the code has it
+  module _ {sgn : ℤ} (sign_is : sgn ≡ sign (is_bought tx)) where
+    pub test_small : (nat_abs (to_z w64 (of_z w64 r.figure)) ≤ 1000000) × (nat_abs (to_z w64 (of_z w64 sgn)) ≤ 1)
+    test_small = (rw figure_read (omega (arith, figure_small)), rw (sign_read (is_bought tx) sgn sign_is) (sign_small (is_bought tx)))
+
+    module _ {both shows : Bool} (shows_is : shows ≡ shows_other (to_z w64 (of_z w64 r.figure)) (to_z w64 (of_z w64 sgn))) (both_is : both ≡ not (eqb x 0) && shows) where
+      shown : shows ≡ shows_other r.figure (sign (is_bought tx))
+      shown = shows_is ∙ ap₂ (λ (z k : ℤ). shows_other z k) figure_read (sign_read (is_bought tx) sgn sign_is)
+
+      pub goes_on : both ≡ true → (0 < x) × (shows_other r.figure (sign (is_bought tx)) ≡ true)
+      goes_on e =
+          let t = and_both (not (eqb x 0)) shows (sym both_is ∙ e) in
+          (pos_of_ne-zero (eqb-false x 0 (not_eq (eqb x 0) t.0)), sym shown ∙ t.1)
+
+      pub stops : both ≡ false → (x ≡ 0) ⊎ (shows_other r.figure (sign (is_bought tx)) ≡ false)
+      stops e = go (eqb x 0) refl (sym both_is ∙ e)
+        where
+          go : (b : Bool) → eqb x 0 ≡ b → not b && shows ≡ false → (x ≡ 0) ⊎ (shows_other r.figure (sign (is_bought tx)) ≡ false)
+          go true z k = inl (eqb-true x 0 z)
+          go false z k = inr (sym shown ∙ k)
+
+  module _ (some : 0 < x) (shown : shows_other r.figure (sign (is_bought tx)) ≡ true) where
+    -- the leg that is met
+    pub met_within : j < n
+    met_within = inside tags left n v.sequence false 0 i h x j r.figure (v.searching 0 false) some shown v.within
+
+    all_met : matched_at tx x (get_or tags j 0) y ≡ min x y
+    all_met = meets tags left n v.sequence false 0 i h x j r.figure (v.searching 0 false) some shown v.past met_within
+
+    module _ {m : ℕ} (smaller : m ≡ min x y) where
+      matched : m ≡ matched_at tx x (get_or tags j 0) y
+      matched = smaller ∙ sym all_met
+
+      pub again : matched_at tx m (get_or tags j 0) y ≡ m
+      again = matched_again tx x (get_or tags j 0) y m matched
+
+      pub turned : {after : List ℕ} {z : Step} → Meets tags left after i j n m r z → Turned tags left₀ after n i s z (x - m) (j + 1)
+      turned {after} {z} e =
+          let small = tag_at_small tags n v.sequence.valid i h in
+          let few : y - m ≤ 10000 = omega (arith, count_at tags left n v.sequence j met_within) in
+          let more = note_few (tally_of r) tx (get_or tags j 0) m in record {
+            same = λ root second.
+                rw e.rest
+                (inner_turn tags n v.sequence.valid second root left (tally_of r) (tally_of z) tx x j m v.sequence.full small met_within matched e.tally
+                ∙ v.same root second);
+            searching = λ root second. rw e.rest (met tags left n v.sequence second root i j x m v.past met_within matched r.figure z.figure (v.searching root second) (rw e.rest at (e.figure root second)));
+            sequence = rw e.rest (sequence_set tags left n v.sequence j (y - m) met_within few);
+            past = omega (arith, v.past);
+            within = omega (arith, met_within);
+            few = omega (arith, v.few);
+            pairs = omega (arith, ap (λ (t : PairTally). t.pairs) e.tally, more, v.pairs);
+            group = e.group ∙ v.group;
+          }
+
+      -- the leg has nothing left
+      pub skipped : m ≡ 0 → Turned tags left₀ left n i s r x (j + 1)
+      skipped e =
+          let none : y ≡ 0 = omega arith in
+          let small = tag_at_small tags n v.sequence.valid i h in record {
+            same = λ root second. inner_skip tags n v.sequence.valid second root left (tally_of r) tx x j v.sequence.full small met_within (sym matched ∙ e) ∙ v.same root second;
+            searching = λ root second. passed tags left n v.sequence second root i h x j r.figure (v.searching root second) met_within none;
+            sequence = v.sequence;
+            past = omega (arith, v.past);
+            within = omega (arith, met_within);
+            few = v.few;
+            pairs = omega (arith, v.pairs);
+            group = v.group;
+          }
+
+  -- the leg has nothing left, or the figure shows nothing more of the other side
+  module _ (full₀ : length left₀ ≡ 16) (ended : (x ≡ 0) ⊎ (shows_other r.figure (sign (is_bought tx)) ≡ false)) where
+    pub reaches : Reaches tags left₀ (set left i x) i n (tally_of s) (tally_of r)
+    reaches =
+        let q = v.sequence in record {
+          legs = λ root second. inner_legs tags n q.valid second root left₀ left full₀ q.full (tally_of s) (tally_of r) x i j h v.within (searching.stop (together second) (v.searching root second) ended) (v.same root second);
+          tally = λ root second. inner_tally tags n q.valid second root left₀ left full₀ q.full (tally_of s) (tally_of r) x i j h v.within (searching.stop (together second) (v.searching root second) ended) (v.same root second);
+          few = omega (arith, v.pairs, v.within, q.valid.few);
+          sequence = sequence_set tags left n q i x h v.few;
+        }
+
+  pub counts : Counts tags (set left i x) n i (i + 1) r.figure
+  counts root second = (v.searching root second).figure ∙ ap (open_contracts (together second) (series_in tags second i)) (sym (put_before tags left n v.sequence second root i x h))
