@@ -1,7 +1,7 @@
 -- Answers, field by field; legs of a valid order, with their unit counts.
 use mathlib.Core.Path.{◌≡◌, refl, sym, ap, ap₂, ◌∙◌}
 use mathlib.Core.List.{List, [], ◌∷◌, map, zip_with}
-use mathlib.Core.Bool.{true, false, not}
+use mathlib.Core.Bool.{Bool, true, false, not}
 use Prim.Native.Nat.{ℕ, zero, suc, ◌≤◌}
 use native.Mathlib.Nat.{div-le_self, le_trans}
 use native.Mathlib.Omega.{arith}
@@ -13,13 +13,13 @@ use Rattle.rules.specs.declared.Settings.{Settings}
 use Rattle.rules.specs.declared.Market.{Market}
 use Rattle.rules.specs.declared.OrderAnswer.{OrderAnswer}
 use Rattle.rules.specs.Lists.{All}
-use Rattle.rules.specs.Order.{is_yes, common_divisor, divided, units, is_complex}
+use Rattle.rules.specs.Order.{is_yes, common_divisor, divided, units, is_simple, is_complex}
 use Rattle.rules.specs.Pairing.{both_walks}
 use Rattle.rules.specs.Class.{class_of, shape_of}
 use Rattle.rules.specs.Market.{settings_hold}
 use Rattle.rules.specs.Numbers.{rejection, judged}
 use Rattle.rules.specs.Valid.{UnitWithin, ComplexOrder}
-use Rattle.laws.proofs.Simple.{simple_same}
+use Rattle.laws.proofs.Simple.{simple_length, simple_same}
 use Rattle.keys.specs.Tags.{leg_at, legs_from, legs_in, ValidTags}
 use Rattle.arranging.proofs.Zip.{zip_length}
 use Rattle.complex_checks.proofs.Laws.{strike_bound}
@@ -105,3 +105,28 @@ complex_units st t n tags left us s v some c e =
       few = omega (arith, same, many, v.valid.few);
       each = rw e (units_within ls (legs_within 0 n tags left v));
     }
+
+-- ---- orders of one leg, and others: `simple` is what the code asks of the number of legs
+
+module _ (t : Terms) (n : ℕ) (tags left : List ℕ) (v : ValidTags n tags left) {simple : Bool} (asked : (ls : List Leg) → length ls ≡ n → simple ≡ is_simple t ls) where
+  asked_legs : simple ≡ is_simple t (legs_in 0 false n tags left)
+  asked_legs = asked (legs_in 0 false n tags left) (legs_length 0 n tags left v)
+
+  simple_one : simple ≡ true → n ≡ 1
+  simple_one h = sym (legs_length 0 n tags left v) ∙ simple_length t (legs_in 0 false n tags left) (sym asked_legs ∙ h)
+
+  pub simple_unit : simple ≡ true → is_simple t (leg_at 0 false (get_or tags 0 0) 1 ∷ []) ≡ true
+  simple_unit h =
+      let e = (one_leg 0 n tags left v (simple_one h)).0 in
+      simple_same t (leg_at 0 false (get_or tags 0 0) 1 ∷ []) (legs_in 0 false n tags left) (ap length (sym e)) ∙ sym asked_legs ∙ h
+
+  pub complex_legs : simple ≡ false → is_complex t (legs_in 0 false n tags left) ≡ true
+  complex_legs h = ap not (sym asked_legs ∙ h)
+
+  -- the answer to the one leg of a simple order is the order's
+  pub judged_leg : simple ≡ true → (st : Settings) (m : Market) (root : ℕ) {r : OrderAnswer}
+      → ((root size : ℕ) → 1 ≤ size → r ≡ judged st m t (leg_at root false (get_or tags 0 0) size ∷ []))
+      → r ≡ judged st m t (legs_in root false n tags left)
+  judged_leg h st m root r =
+      let o = one_leg root n tags left v (simple_one h) in
+      r root (get_or left 0 0) o.1 ∙ ap (judged st m t) (sym o.0)

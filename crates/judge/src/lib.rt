@@ -55,6 +55,7 @@ fn judge_complex(
 }
 
 // The legs come in the first walk's sequence; the walks take contracts off `left`. No check asks for the legs' root.
+#[tactic(auto, using(crate::proofs::Laws::simple_unit, crate::proofs::Laws::complex_legs))]
 pub fn judge(
     st: Settings,
     m: Market,
