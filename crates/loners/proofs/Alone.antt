@@ -1,5 +1,5 @@
 -- A turn over the legs that are left.
-use mathlib.Core.Path.{◌≡◌, sym, ap, ◌∙◌}
+use mathlib.Core.Path.{◌≡◌, refl, sym, ap, ◌∙◌}
 use mathlib.Core.List.{List}
 use mathlib.Core.Bool.{Bool}
 use Prim.Native.Nat.{ℕ, ◌+◌, ◌<◌, ◌≤◌}
@@ -12,6 +12,10 @@ use Rattle.tagged.specs.declared.PairTally.{PairTally}
 use Rattle.arranging.proofs.Zip.{zip_length, zip_at}
 use Rattle.loops.proofs.Finding.{step, over}
 use Rattle.loners.specs.Tallies.{alone_with, alone_at, all_alone}
+
+pub alone_pairs : (t : PairTally) (tag left : ℕ) → (alone_at t tag left).pairs ≡ t.pairs
+unfolding alone_at
+alone_pairs t tag left = refl
 
 module _ (root : ℕ) (second : Bool) (tags left : List ℕ) (t : length tags ≡ 16) (l : length left ≡ 16) (n : ℕ) (fits : n ≤ 16) where
   abbrev legs : List Leg

@@ -10,6 +10,7 @@ use keys::is_bought;
 use tagged::PairTally;
 
 // The tally after a leg that is left with some contracts, or none.
+#[tactic(auto, unfolding(crate::specs::Tallies::alone_at))]
 fn lone(t: PairTally, tag: u64, left: u64) -> PairTally
     ensures { result ≡ alone_at t tag left }
 {
