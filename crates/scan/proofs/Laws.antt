@@ -17,7 +17,7 @@ use Rattle.frame.proofs.Laws.{step_continued}
 use Rattle.groups.specs.Sequence.{sequence_step}
 use Rattle.groups.proofs.Laws.{further_outside}
 use Rattle.scan.specs.declared.Scan.{Scan}
-use Rattle.scan.specs.Scanning.{legs_in, places_step, step_of, scan_from}
+use Rattle.scan.specs.Scanning.{begun, legs_in, places_step, step_of, scan_from, scanned}
 
 -- the field that was read at a place
 module _ (m : List ℕ) (at : ℕ) (f : Field) (e : f ≡ field_at m at) where
@@ -40,6 +40,25 @@ module _ (m : List ℕ) (at : ℕ) (f : Field) (e : f ≡ field_at m at) where
     -- `k` fields may follow where no more bytes do
     pub turns : (k : ℕ) (s : Scan) → length m - at ≤ k → scan_from (k - 1) m f.next (step_of m s f) ≡ scan_from k m at s
     turns k s h = let n : suc (k - 1) ≡ k = omega (arith, ahead.0, ahead.1) in goes_on (k - 1) s ∙ ap (λ (j : ℕ). scan_from j m at s) n
+
+-- what a turn of the loop begins with: from the place `at` on the state becomes that after all fields from `first` on
+pub record Left (m : List ℕ) (first at : ℕ) (s : Scan) : Type 0 where
+  most : ℕ
+  left : scan_from most m at s ≡ scanned m first
+  enough : length m - at ≤ most
+
+pub all_left : (m : List ℕ) (first : ℕ) {at : ℕ} {s : Scan} → at ≡ first → s ≡ begun first → Left m first at s
+unfolding scanned
+all_left m first e d = record { most = length m; left = rw (e, d); enough = omega arith }
+
+module _ {m : List ℕ} {first at : ℕ} {s : Scan} (l : Left m first at s) {f : Field} (e : f ≡ field_at m at) where
+  pub none_left : f.tag ≡ 0 → s ≡ scanned m first
+  none_left t = ends m at f e t l.most s ∙ l.left
+
+  pub one_passed : (f.tag ≡ 0 → ⊥) → {next : ℕ} {s' : Scan} → next ≡ f.next → s' ≡ step_of m s f → Left m first next s'
+  one_passed t n d =
+      let on = ahead m at f e t in
+      record { most = l.most - 1; left = rw (n, d) (turns m at f e t l.most s l.enough ∙ l.left); enough = omega (arith, n, on.0, l.enough) }
 
 abbrev passed : Scan → Field → Scan
 passed s f = record { next = f.next; tail = s.tail; sequence = s.sequence; formed = s.formed; places = s.places }

@@ -1,5 +1,5 @@
 -- The fields of a message behind its head, one after the other, each a step of a state.
-use Rattle.std.specs.Prelude.{List, Bool, true, false, cond, not, ◌&&◌, ◌||◌, ℕ, zero, suc, length, eqb}
+use Rattle.std.specs.Prelude.{List, true, false, cond, ◌&&◌, ℕ, zero, suc, length, eqb}
 use Rattle.rules.specs.Lists.{same_numbers}
 use Rattle.rules.specs.Fix.{one, number_said, has_form}
 use Rattle.fields.specs.declared.Field.{Field}

@@ -1,5 +1,5 @@
-// The loop over the fields of a message, with the reader held in a local from field to field: document 02, S-1. It is
-// the one loop that is proved by hand; what a field does to the state is `step`'s.
+// The loop over the fields of a message, with the reader held in a local from field to field: document 02, S-1. What a
+// field does to the state is `step`'s.
 #![tactic(auto)]
 
 ghost use Rattle.std.specs.Prelude.{◌≡◌, ◌<◌, length};
@@ -73,6 +73,7 @@ fn start(at: usize) -> Scan
 }
 
 // The number of groups that a field says.
+#[tactic(auto, using(fields::proofs::Laws::lent_value))]
 fn legs_in(message: &[u8], f: Field) -> u64
     requires { Inside (length message.now) f }
     ensures { (result ≡ legs_in message.now f) × (result < 1000000000000000) }
@@ -86,6 +87,7 @@ fn legs_in(message: &[u8], f: Field) -> u64
 }
 
 // Whether a field's value has its form.
+#[tactic(auto, using(fields::proofs::Laws::lent_value))]
 fn is_formed(message: &[u8], f: Field) -> bool
     requires { Inside (length message.now) f }
     ensures { result ≡ has_form f.tag (value_in message.now f) }
@@ -96,6 +98,7 @@ fn is_formed(message: &[u8], f: Field) -> bool
 }
 
 // Whether a field says a market order.
+#[tactic(auto, using(fields::proofs::Laws::lent_value))]
 fn is_market(message: &[u8], f: Field) -> bool
     requires { Inside (length message.now) f }
     ensures { result ≡ same_numbers (value_in message.now f) one }
@@ -106,6 +109,7 @@ fn is_market(message: &[u8], f: Field) -> bool
 }
 
 // The places after a field that says so many groups. They are made anew even where they stay: see `step`.
+#[tactic(auto, unfolding(crate::specs::Scanning::places_step))]
 fn places_step(message: &[u8], p: Places, f: Field, legs: u64) -> Places
     requires inside { Inside (length message.now) f }
     requires legs_value { legs ≡ legs_in message.now f }
@@ -148,6 +152,7 @@ fn places_step(message: &[u8], p: Places, f: Field, legs: u64) -> Places
 }
 
 // Whether a tag is a further one. Neighbours are in two arms: in one, the prover takes them for a range.
+#[tactic(auto, unfolding(rules::specs::Fix::is_further))]
 fn is_further(tag: u64) -> bool
     ensures { result ≡ is_further tag }
 {
@@ -162,6 +167,7 @@ fn is_further(tag: u64) -> bool
 
 // The state after a field. Most fields have a further tag: they are stepped over before anything else is computed. Else
 // sequence and places are made field by field: copied as a whole, their padding would be moved at every turn.
+#[tactic(auto, using(crate::proofs::Laws::passes), unfolding(crate::specs::Scanning::step_of))]
 fn step(message: &[u8], s: Scan, f: Field) -> Scan
     requires { Inside (length message.now) f }
     ensures { result ≡ step_of message.now s f }
@@ -199,6 +205,7 @@ fn step(message: &[u8], s: Scan, f: Field) -> Scan
 }
 
 // What the fields of a message say, from the place `at` on.
+#[tactic(auto, using(crate::proofs::Laws::ahead, frame::proofs::Laws::inside))]
 pub fn scan_fields(message: &[u8], at: usize) -> Scan
     ensures { result ≡ scanned message.now at }
 {
