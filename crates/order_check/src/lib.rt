@@ -39,6 +39,7 @@ pub fn check_order(o: Order, settings: &[u64], market: &[u64]) -> OrderAnswer
 }
 
 // The order check on the host's slices.
+#[tactic(auto, using(order_record::proofs::Laws::whole_lengths, crate::proofs::Laws::not_whole, crate::proofs::Laws::too_many, crate::proofs::Laws::as_record))]
 pub fn check_slices(
     symbols: &[u8],
     counts: &[u8],
