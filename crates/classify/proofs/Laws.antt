@@ -2,15 +2,13 @@
 use mathlib.Core.Path.{◌≡◌, refl, sym, ap, ap₂, ◌∙◌}
 use mathlib.Core.List.{List, [], ◌∷◌, map, zip_with, head-eq_of_cons-eq, tail-eq_of_cons-eq}
 use mathlib.Core.Bool.{false}
-use Prim.Native.Nat.{ℕ, zero, suc, ◌≤◌}
+use Prim.Native.Nat.{ℕ, zero, suc}
 use native.Mathlib.Omega.{arith}
 use lib.ListN.{length, take}
 use Rattle.rules.specs.declared.Leg.{Leg}
-use Rattle.rules.specs.Lists.{All}
 use Rattle.rules.specs.Order.{common_divisor, divided, units}
 use Rattle.rules.specs.Pairing.{Walked}
 use Rattle.rules.specs.Class.{pair_class, class_with, class_of}
-use Rattle.laws.proofs.Sorting.{all_weaken}
 use Rattle.keys.specs.Tags.{leg_at, legs_in}
 
 -- the counts of the legs are the array's
@@ -41,14 +39,6 @@ pub legs_units : (root n : ℕ) (tags sizes counts : List ℕ) → length tags �
 unfolding units
 legs_units root n tags sizes counts d e f h =
     legs_divided (common_divisor (legs_in root false n tags sizes)) root n tags sizes counts (d ∙ sym e) (d ∙ sym f) (h (legs_in root false n tags sizes) (legs_sizes root n tags sizes (d ∙ sym e)))
-
--- counts in their limits
-module _ (ns : List ℕ) (h : All (λ s. (1 ≤ s) × (s ≤ 10000)) ns) where
-  pub all_positive : All (λ s. 1 ≤ s) ns
-  all_positive = all_weaken {P = λ (s : ℕ). (1 ≤ s) × (s ≤ 10000)} ns (λ s k. k.0) h
-
-  pub all_within : All (λ s. s ≤ 10000) ns
-  all_within = all_weaken {P = λ (s : ℕ). (1 ≤ s) × (s ≤ 10000)} ns (λ s k. k.1) h
 
 -- the class by pairs and loners is that of both walks
 pub classed : (us : List Leg) (w : Walked) {r pairs : ℕ} → r ≡ class_with us pairs → pairs ≡ pair_class w → r ≡ class_of us w
