@@ -24,6 +24,7 @@ use terms::shares_of;
 use values::price_said;
 
 // Whether the frame of a message is right, with its length and its sum.
+#[tactic(auto, using(crate::proofs::Laws::fallen))]
 fn is_framed(message: &[u8], h: Head, s: Scan) -> bool
     requires { (h ≡ head_of message.now) × (s ≡ scanned message.now h.body) }
     ensures { result ≡ is_framed_by message.now h s }
@@ -41,6 +42,7 @@ fn is_framed(message: &[u8], h: Head, s: Scan) -> bool
 }
 
 // The first of 30, 31 and 32 that applies, 0 if none.
+#[tactic(auto, using(crate::proofs::Laws::not_framed, crate::proofs::Laws::not_complete, crate::proofs::Laws::forms))]
 fn message_refusal(message: &[u8], h: Head, s: Scan) -> u64
     requires { (h ≡ head_of message.now) × (s ≡ scanned message.now h.body) }
     ensures { result ≡ message_refusal message.now }
@@ -56,6 +58,7 @@ fn message_refusal(message: &[u8], h: Head, s: Scan) -> u64
 }
 
 // The terms of the order that a message says, with the host's flags and no shares.
+#[tactic(auto, using(fields::proofs::Laws::lent))]
 fn terms_said(message: &[u8], p: Places, stop: u64, manual: u64, opening: u64) -> Terms
     requires { (p.start ≤ p.end) × (p.end ≤ length message.now) × (is_price (slice p.start p.end message.now) ≡ true) }
     ensures { result ≡ terms_of (price_said (slice p.start p.end message.now)) (cond p.market 1 0) stop manual opening (pos 0) }
@@ -76,6 +79,7 @@ fn terms_said(message: &[u8], p: Places, stop: u64, manual: u64, opening: u64) -
 }
 
 // The answer to a message. Nothing is kept of legs past the 16th, which have been read for their form.
+#[tactic(auto, using(crate::proofs::Laws::fix_too_many, crate::proofs::Laws::fix_refused))]
 pub fn check_fix(
     message: &[u8],
     stop: u64,
