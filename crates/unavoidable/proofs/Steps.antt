@@ -1,5 +1,5 @@
 -- The table of a series: it falls and rises as the tables of S-8 do, and tells the series walked up to its own from the others.
-use mathlib.Core.Path.{◌≡◌, refl, sym, ap, ◌∙◌}
+use mathlib.Core.Path.{◌≡◌, refl, sym, ◌∙◌}
 use mathlib.Core.List.{List}
 use mathlib.Core.Bool.{Bool, true, false, cond, ◌&&◌, true≢false}
 use Prim.Native.Nat.{ℕ, ◌≤◌, ◌<◌}

@@ -2,7 +2,7 @@
 use Rattle.std.specs.Prelude.{◌≡◌, List, [], ◌∷◌, map, Bool, true, false, ℕ, ℤ, pos}
 use Rattle.rules.specs.declared.Leg.{Leg}
 use Rattle.rules.specs.Order.{Lent, lent_legs, legs_of, net_worth}
-use Rattle.rules.specs.Examples.{calls, puts, minus, Case, given}
+use Rattle.rules.specs.Examples.{calls, puts, minus, given}
 use Rattle.unavoidable.specs.Tables.{witness}
 
 -- what an order is worth under one of its tables: the premium of each leg, and the net worth
