@@ -10,7 +10,7 @@ use choice::both;
 use digits::byte_of;
 
 // The sum modulo 256 of the bytes before the place `to`.
-#[tactic(auto, using(crate::proofs::Laws::sum_turn, crate::proofs::Laws::sum_end))]
+#[tactic(auto, using(crate::proofs::Laws::sum_end))]
 pub fn sum_before(message: &[u8], to: usize) -> u64
     requires { to ≤ length message.now }
     ensures { (result ≡ total (take to message.now) % 256) × (result < 256) }
