@@ -1,0 +1,2 @@
+-- What the checks answer.
+pub mod Answers
