@@ -63,32 +63,32 @@ pub enum Shape {
 impl From<Refusal> for u64 {
     ghost from_gives = { λ e n. n ≡ refusal_number e };
 
-    fn from(e: Refusal) -> u64 {
-        e as u64
+    fn from(refusal: Refusal) -> u64 {
+        refusal as u64
     }
 }
 
 impl From<Check> for u64 {
     ghost from_gives = { λ c n. n ≡ check_number c };
 
-    fn from(c: Check) -> u64 {
-        c as u64
+    fn from(check: Check) -> u64 {
+        check as u64
     }
 }
 
 impl From<Class> for u64 {
     ghost from_gives = { λ c n. n ≡ class_number c };
 
-    fn from(c: Class) -> u64 {
-        c as u64
+    fn from(class: Class) -> u64 {
+        class as u64
     }
 }
 
 impl From<Shape> for u64 {
     ghost from_gives = { λ s n. n ≡ shape_number s };
 
-    fn from(s: Shape) -> u64 {
-        s as u64
+    fn from(shape: Shape) -> u64 {
+        shape as u64
     }
 }
 
@@ -153,8 +153,8 @@ pub fn said_of_quote(answer: AnswerToQuote) -> QuoteAnswer
             number: number(j.verdict),
             cancel: u64::from(j.cancel),
         },
-        Err(e) => QuoteAnswer {
-            number: u64::from(e),
+        Err(refusal) => QuoteAnswer {
+            number: u64::from(refusal),
             cancel: 0,
         },
     }
