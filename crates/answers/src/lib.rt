@@ -144,6 +144,17 @@ pub fn said(answer: Answer) -> OrderAnswer
     }
 }
 
+// An answer in numbers, lent to a host: the number is the result.
+pub fn lend(answer: Answer, class: &mut u64, shape: &mut u64, pairings: &mut u64) -> u64
+    ensures { record { number = result; class = class.new; shape = shape.new; pairings = pairings.new } ≡ answer_said answer }
+{
+    let said = said(answer);
+    *class = said.class;
+    *shape = said.shape;
+    *pairings = said.pairings;
+    said.number
+}
+
 // A quote's answer in numbers. A refusal cancels nothing.
 pub fn said_of_quote(answer: AnswerToQuote) -> QuoteAnswer
     ensures { result ≡ quote_said answer }
