@@ -3,10 +3,10 @@
 
 ghost use Rattle.std.specs.Prelude.{◌≡◌, false, [], ◌∷◌, ℕ, length};
 ghost use Rattle.rules.specs.Class.{has_own_class, class_with};
+ghost use Rattle.answers.specs.Answers.{class_number};
 ghost use Rattle.keys.specs.Tags.{legs_in};
 
-use amounts::pick;
-use choice::{both, choose};
+use answers::Class;
 use keys::leg_at;
 use rules::Leg;
 use shape::is_butterfly;
@@ -20,23 +20,32 @@ fn has_own_class(a: Leg, m: Leg, b: Leg) -> bool
 {
     let low = above_lower(a.series.strike.0, m.series.strike.0, b.series.strike.0);
     let high = below_higher(a.series.strike.0, m.series.strike.0, b.series.strike.0);
-    let leans = choose(m.series.call, high <= low, low <= high);
-    both(is_butterfly(a, m, b), leans)
+    let leans = if m.series.call {
+        high <= low
+    } else {
+        low <= high
+    };
+    is_butterfly(a, m, b) && leans
 }
 
 // A butterfly with a class of its own is a debit if the middle is sold, a credit if it is bought.
 #[tactic(auto, unfolding(rules::specs::Class::class_with))]
-fn class_of_three(a: Leg, m: Leg, b: Leg, pairs: u64) -> u64
-    ensures { result ≡ class_with (a ∷ m ∷ b ∷ []) pairs }
+fn class_of_three(a: Leg, m: Leg, b: Leg, pairs: Class) -> Class
+    ensures { class_number result ≡ class_with (a ∷ m ∷ b ∷ []) (class_number pairs) }
 {
-    pick(has_own_class(a, m, b), pick(m.bought, 2, 1), pairs)
+    if !has_own_class(a, m, b) {
+        pairs
+    } else if m.bought {
+        Class::Credit
+    } else {
+        Class::Debit
+    }
 }
 
 // The class of unit legs in the first walk's sequence. `pairs` is the class that the pairs and loners of a walk give.
 #[tactic(auto, using(crate::proofs::Laws::class_three, crate::proofs::Laws::class_other))]
-pub fn class_of(tags: &[u64; 16], units: &[u64; 16], n: usize, pairs: u64) -> u64
-    requires { (length tags.now ≡ 16) × (length units.now ≡ 16) }
-    ensures { (root : ℕ) → result ≡ class_with (legs_in root false n tags.now units.now) pairs }
+pub fn class_of(tags: &[u64; 16], units: &[u64; 16], n: usize, pairs: Class) -> Class
+    ensures { (root : ℕ) → class_number result ≡ class_with (legs_in root false n tags.now units.now) (class_number pairs) }
 {
     if n == 3 {
         let a = leg_at(tags[0], units[0]);

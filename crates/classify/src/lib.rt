@@ -5,6 +5,7 @@ ghost use Rattle.std.specs.Prelude.{◌≡◌, false, ℕ, length};
 ghost use Rattle.keys.specs.Tags.{legs_in, ValidTags};
 ghost use Rattle.classify.specs.Legs.{IsClassified};
 
+use answers::{Class, Shape};
 use class::class_of;
 use pairing::both_walks;
 use shape::shape_of;
@@ -12,8 +13,8 @@ use unit_counts::units;
 
 #[derive(Clone, Copy)]
 pub struct Classified {
-    pub class: u64,
-    pub shape: u64,
+    pub class: Class,
+    pub shape: Shape,
     pub pairings: u64,
 }
 
@@ -26,22 +27,21 @@ pub fn classify(
     european: bool,
     counts: &mut [u64; 16],
 ) -> Classified
-    requires { ValidTags n tags.now left.old × (length counts.old ≡ 16) }
-    ensures { ((root : ℕ)
+    requires { ValidTags n tags.now left.old }
+    ensures { (root : ℕ)
         → IsClassified
         european
         (legs_in root false n tags.now left.old)
         (legs_in root false n tags.now counts.new)
-        result)
-        × (length counts.new ≡ 16) }
+        result }
 {
     units(left, n, counts);
     let paired = both_walks(tags, left, n, european);
     let class = class_of(tags, counts, n, paired.class);
     let shape = shape_of(tags, counts, n);
     Classified {
-        class: class,
-        shape: shape,
+        class,
+        shape,
         pairings: paired.pairings,
     }
 }

@@ -1,66 +1,16 @@
 -- The definitions as the code computes them.
 use mathlib.Core.Path.{◌≡◌, refl, sym, ◌∙◌}
 use mathlib.Core.List.{List, [], ◌∷◌}
-use mathlib.Core.Bool.{Bool, true, false, not, ◌&&◌, ◌||◌, true≢false}
+use mathlib.Core.Bool.{Bool, true, false, ◌||◌, true≢false}
 use Prim.Native.Nat.{ℕ, zero, suc, ◌+◌, ◌-◌, ◌*◌, min, max}
 use native.Mathlib.Omega.{arith}
 use lib.Dec.{eqb, ltb}
 use lib.ListN.{length, take, get_or}
 use borrow.Author.Tests.{eqb-true, eqb-false, eq-eqb, ne_eqb}
 use Rattle.rules.specs.declared.Leg.{Leg}
-use Rattle.rules.specs.declared.Series.{Series}
-use Rattle.rules.specs.Lists.{every}
-use Rattle.rules.specs.Pairing.{one_expiry}
-use Rattle.rules.specs.Class.{strike_of, is_of, opposite, is_vertical, between, is_butterfly, is_true_butterfly, is_box, shape_of}
-use Rattle.rules.proofs.Tests.{every_three, joined}
+use Rattle.rules.specs.Class.{strike_of, is_vertical, is_butterfly, is_true_butterfly, is_box, shape_of}
 use Rattle.keys.specs.Tags.{leg_at, legs_in}
 use Rattle.strikes.proofs.Listed.{shown}
-use Rattle.shape.specs.Box.{box_series, box_sides}
-
-pub butterfly_read : (a m b : Leg) {first second left right middle x y r : Bool}
-    → first ≡ one_expiry a.series m.series
-    → second ≡ one_expiry m.series b.series
-    → left ≡ opposite a m
-    → right ≡ opposite m b
-    → middle ≡ between (strike_of a) (strike_of m) (strike_of b)
-    → x ≡ every (first ∷ second ∷ is_of 1 a ∷ is_of 2 m ∷ [])
-    → y ≡ every (is_of 1 b ∷ left ∷ right ∷ middle ∷ [])
-    → r ≡ x && y
-    → r ≡ is_butterfly a m b
-unfolding is_butterfly
-butterfly_read a m b f s l k z x y r = rw (← f, ← s, ← l, ← k, ← z) (joined _ _ r x y)
-
-pub box_read : (p q d c : Series) {puts calls put x y r : Bool}
-    → puts ≡ one_expiry p q
-    → calls ≡ one_expiry c d
-    → put ≡ not p.call
-    → x ≡ every (puts ∷ calls ∷ eqb c.expiry p.expiry ∷ c.call ∷ [])
-    → y ≡ every (put ∷ eqb c.strike.0 p.strike.0 ∷ eqb d.strike.0 q.strike.0 ∷ ltb c.strike.0 d.strike.0 ∷ [])
-    → r ≡ x && y
-    → r ≡ every (box_series p q d c)
-unfolding box_series
-box_read p q d c f s k x y r = rw (← f, ← s, ← k) (joined _ _ r x y)
-
-pub sides_read : (p q d c : Leg) {calls lower higher x first y r : Bool}
-    → calls ≡ opposite c d
-    → lower ≡ opposite c p
-    → higher ≡ opposite d q
-    → x ≡ every (is_of 1 p ∷ is_of 1 q ∷ is_of 1 c ∷ is_of 1 d ∷ [])
-    → first ≡ calls && lower
-    → y ≡ first && higher
-    → r ≡ x && y
-    → r ≡ every (box_sides p q d c)
-unfolding box_sides
-sides_read p q d c {calls} {lower} {higher} f s k x z y r =
-    rw (← f, ← s, ← k) (joined _ _ r x (cc (every_three calls lower higher)))
-
-pub is_box_read : (p q d c : Leg) {x y r : Bool}
-    → x ≡ every (box_series p.series q.series d.series c.series)
-    → y ≡ every (box_sides p q d c)
-    → r ≡ x && y
-    → r ≡ is_box p q d c
-unfolding is_box box_series box_sides
-is_box_read p q d c x y r = joined _ _ r x y
 
 -- Twice the middle strike against the sum of the outer ones, by its distances from the lower and from the higher.
 module _ (a m b : Leg) {low high : ℕ}

@@ -2,31 +2,22 @@
 #![tactic(auto)]
 
 ghost use Rattle.std.specs.Prelude.{◌≡◌, false, [], ◌∷◌, ℕ, length};
-ghost use Rattle.rules.specs.Lists.{every};
 ghost use Rattle.rules.specs.Pairing.{one_expiry};
 ghost use Rattle.rules.specs.Class.{opposite, is_vertical, between, is_butterfly, is_true_butterfly, is_box, shape_of};
+ghost use Rattle.answers.specs.Answers.{shape_number};
 ghost use Rattle.keys.specs.Tags.{legs_in};
-ghost use Rattle.shape.specs.Box.{box_series, box_sides};
 
-use amounts::pick;
-use choice::{both, either, negated};
+use answers::Shape;
 use keys::leg_at;
 use rules::{Leg, Series};
 use strikes::{above_lower, below_higher};
-
-#[tactic(auto, unfolding(rules::specs::Lists::every))]
-fn all_four(a: bool, b: bool, c: bool, d: bool) -> bool
-    ensures { result ≡ every (a ∷ b ∷ c ∷ d ∷ []) }
-{
-    both(both(a, b), both(c, d))
-}
 
 // The same type and expiry.
 #[tactic(auto, using(rules::proofs::Tests::beq_same))]
 fn one_expiry(s: Series, t: Series) -> bool
     ensures { result ≡ one_expiry s t }
 {
-    both(s.call == t.call, s.expiry == t.expiry)
+    s.call == t.call && s.expiry == t.expiry
 }
 
 // One is bought and the other sold.
@@ -37,43 +28,32 @@ fn opposite(a: Leg, b: Leg) -> bool
     a.bought != b.bought
 }
 
-#[tactic(auto, unfolding(rules::specs::Class::is_vertical))]
+#[tactic(auto, unfolding(rules::specs::Class::is_vertical, rules::specs::Lists::every))]
 fn is_vertical(a: Leg, b: Leg) -> bool
     ensures { result ≡ is_vertical a b }
 {
-    all_four(
-        one_expiry(a.series, b.series),
-        a.size == 1,
-        b.size == 1,
-        opposite(a, b),
-    )
+    one_expiry(a.series, b.series) && a.size == 1 && b.size == 1 && opposite(a, b)
 }
 
 fn between(a: u64, m: u64, b: u64) -> bool
     ensures { result ≡ between a m b }
 {
-    either(both(a < m, m < b), both(b < m, m < a))
+    a < m && m < b || b < m && m < a
 }
 
 // `m` has the middle strike.
-#[tactic(auto, using(crate::proofs::Laws::butterfly_read))]
+#[tactic(auto, unfolding(rules::specs::Class::is_butterfly, rules::specs::Lists::every))]
 pub fn is_butterfly(a: Leg, m: Leg, b: Leg) -> bool
     ensures { result ≡ is_butterfly a m b }
 {
-    both(
-        all_four(
-            one_expiry(a.series, m.series),
-            one_expiry(m.series, b.series),
-            a.size == 1,
-            m.size == 2,
-        ),
-        all_four(
-            b.size == 1,
-            opposite(a, m),
-            opposite(m, b),
-            between(a.series.strike.0, m.series.strike.0, b.series.strike.0),
-        ),
-    )
+    one_expiry(a.series, m.series)
+        && one_expiry(m.series, b.series)
+        && a.size == 1
+        && m.size == 2
+        && b.size == 1
+        && opposite(a, m)
+        && opposite(m, b)
+        && between(a.series.strike.0, m.series.strike.0, b.series.strike.0)
 }
 
 // The middle strike is as far from one outer strike as from the other.
@@ -86,82 +66,70 @@ fn is_true_butterfly(a: Leg, m: Leg, b: Leg) -> bool
     low == high
 }
 
-// One expiry, two strikes, a call and a put at each.
-#[tactic(auto, using(crate::proofs::Laws::box_read))]
-fn box_series(p: Series, q: Series, d: Series, c: Series) -> bool
-    ensures { result ≡ every (box_series p q d c) }
-{
-    both(
-        all_four(
-            one_expiry(p, q),
-            one_expiry(c, d),
-            c.expiry == p.expiry,
-            c.call,
-        ),
-        all_four(
-            negated(p.call),
-            c.strike.0 == p.strike.0,
-            d.strike.0 == q.strike.0,
-            c.strike.0 < d.strike.0,
-        ),
-    )
-}
-
-// One contract of each, the calls opposite, and at each strike call and put opposite.
-#[tactic(auto, using(crate::proofs::Laws::sides_read))]
-fn box_sides(p: Leg, q: Leg, d: Leg, c: Leg) -> bool
-    ensures { result ≡ every (box_sides p q d c) }
-{
-    both(
-        all_four(p.size == 1, q.size == 1, c.size == 1, d.size == 1),
-        both(both(opposite(c, d), opposite(c, p)), opposite(d, q)),
-    )
-}
-
 // `p` and `c` are the put and the call of the lower strike, `q` and `d` those of the higher.
-#[tactic(auto, using(crate::proofs::Laws::is_box_read))]
+#[tactic(auto, unfolding(rules::specs::Class::is_box, rules::specs::Lists::every))]
 fn is_box(p: Leg, q: Leg, d: Leg, c: Leg) -> bool
     ensures { result ≡ is_box p q d c }
 {
-    both(
-        box_series(p.series, q.series, d.series, c.series),
-        box_sides(p, q, d, c),
-    )
+    one_expiry(p.series, q.series)
+        && one_expiry(c.series, d.series)
+        && c.series.expiry == p.series.expiry
+        && c.series.call
+        && !p.series.call
+        && c.series.strike.0 == p.series.strike.0
+        && d.series.strike.0 == q.series.strike.0
+        && c.series.strike.0 < d.series.strike.0
+        && p.size == 1
+        && q.size == 1
+        && c.size == 1
+        && d.size == 1
+        && opposite(c, d)
+        && opposite(c, p)
+        && opposite(d, q)
 }
 
 #[tactic(auto, unfolding(rules::specs::Class::shape_of))]
-fn shape_of_two(a: Leg, b: Leg) -> u64
-    ensures { result ≡ shape_of (a ∷ b ∷ []) }
+fn shape_of_two(a: Leg, b: Leg) -> Shape
+    ensures { shape_number result ≡ shape_of (a ∷ b ∷ []) }
 {
-    pick(is_vertical(a, b), 1, 0)
+    if is_vertical(a, b) {
+        Shape::Vertical
+    } else {
+        Shape::Other
+    }
 }
 
 #[tactic(auto, unfolding(rules::specs::Class::shape_of))]
-fn shape_of_three(a: Leg, m: Leg, b: Leg) -> u64
-    ensures { result ≡ shape_of (a ∷ m ∷ b ∷ []) }
+fn shape_of_three(a: Leg, m: Leg, b: Leg) -> Shape
+    ensures { shape_number result ≡ shape_of (a ∷ m ∷ b ∷ []) }
 {
-    pick(
-        is_butterfly(a, m, b),
-        pick(is_true_butterfly(a, m, b), 2, 3),
-        0,
-    )
+    if !is_butterfly(a, m, b) {
+        Shape::Other
+    } else if is_true_butterfly(a, m, b) {
+        Shape::TrueButterfly
+    } else {
+        Shape::SkewedButterfly
+    }
 }
 
 #[tactic(auto, unfolding(rules::specs::Class::shape_of))]
-fn shape_of_four(p: Leg, q: Leg, d: Leg, c: Leg) -> u64
-    ensures { result ≡ shape_of (p ∷ q ∷ d ∷ c ∷ []) }
+fn shape_of_four(p: Leg, q: Leg, d: Leg, c: Leg) -> Shape
+    ensures { shape_number result ≡ shape_of (p ∷ q ∷ d ∷ c ∷ []) }
 {
-    pick(is_box(p, q, d, c), 4, 0)
+    if is_box(p, q, d, c) {
+        Shape::Box
+    } else {
+        Shape::Other
+    }
 }
 
 // The shape of unit legs in the first walk's sequence. Every shape has two to four legs.
 #[tactic(auto, using(crate::proofs::Laws::shape_other, crate::proofs::Laws::shape_two, crate::proofs::Laws::shape_three, crate::proofs::Laws::shape_four))]
-pub fn shape_of(tags: &[u64; 16], units: &[u64; 16], n: usize) -> u64
-    requires { (length tags.now ≡ 16) × (length units.now ≡ 16) }
-    ensures { (root : ℕ) → result ≡ shape_of (legs_in root false n tags.now units.now) }
+pub fn shape_of(tags: &[u64; 16], units: &[u64; 16], n: usize) -> Shape
+    ensures { (root : ℕ) → shape_number result ≡ shape_of (legs_in root false n tags.now units.now) }
 {
-    if either(n < 2, 4 < n) {
-        return 0;
+    if n < 2 || 4 < n {
+        return Shape::Other;
     }
     let a = leg_at(tags[0], units[0]);
     let b = leg_at(tags[1], units[1]);

@@ -9,32 +9,18 @@ ghost use Rattle.keys.specs.Tags.{leg_at, legs_in};
 
 use keys::leg_at;
 
-// `x` less `y`, and 0 where `y` is greater.
-fn less(x: u64, y: u64) -> u64
-    ensures { result ≡ x - y }
-{
-    if x < y { 0 } else { x - y }
-}
-
 // How far `m` is above the lower of `a` and `b`, and 0 where it is below.
 pub fn above_lower(a: u64, m: u64, b: u64) -> u64
     ensures { result ≡ m - min a b }
 {
-    if a < b { less(m, a) } else { less(m, b) }
+    m.saturating_sub(a.min(b))
 }
 
 // How far `m` is below the higher of `a` and `b`, and 0 where it is above.
 pub fn below_higher(a: u64, m: u64, b: u64) -> u64
     ensures { result ≡ max a b - m }
 {
-    if a < b { less(b, m) } else { less(a, m) }
-}
-
-// The difference of two strikes.
-fn apart(x: u64, y: u64) -> u64
-    ensures { result ≡ (x - y) + (y - x) }
-{
-    if x < y { y - x } else { x - y }
+    a.max(b).saturating_sub(m)
 }
 
 // The strike that a tag says, whatever the leg's contracts.
@@ -49,18 +35,18 @@ fn strike_at(tag: u64) -> u64
 // its calls last, from the highest strike down.
 #[tactic(auto, using(crate::proofs::Laws::maximum_two, crate::proofs::Laws::maximum_three, crate::proofs::Laws::maximum_four))]
 pub fn maximum_of(tags: &[u64; 16], n: usize) -> u64
-    requires { (2 ≤ n) × (length tags.now ≡ 16) }
+    requires { 2 ≤ n }
     ensures { (root : ℕ) (units : List ℕ) → length units ≡ 16 → result ≡ maximum_of (legs_in root false n tags.now units) }
 {
     let a = strike_at(tags[0]);
     let b = strike_at(tags[1]);
     if n == 2 {
-        return apart(a, b);
+        return a.abs_diff(b);
     }
     let c = strike_at(tags[2]);
     if n == 3 {
         return above_lower(a, b, c);
     }
     let d = strike_at(tags[3]);
-    less(c, d)
+    c.saturating_sub(d)
 }
