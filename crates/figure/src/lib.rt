@@ -24,8 +24,5 @@ pub fn shows_other(figure: i64, sign: i64) -> bool
 pub fn begun(figure: i64, last: u64, group: u64) -> i64
     ensures { result ≡ cond (eqb last group) figure (pos 0) }
 {
-    if last == group {
-        return figure;
-    }
-    0
+    if last == group { figure } else { 0 }
 }

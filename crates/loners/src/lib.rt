@@ -2,10 +2,10 @@
 #![tactic(auto)]
 
 ghost use Rattle.std.specs.Prelude.{◌≡◌, ◌≤◌, length};
+ghost use Rattle.answers.specs.Answers.{class_number};
 ghost use Rattle.loners.specs.Tallies.{alone_at, tally_class, joined_tallies, Loners};
 
-use amounts::pick;
-use choice::{both, either, negated};
+use answers::Class;
 use keys::is_bought;
 use tagged::PairTally;
 
@@ -14,12 +14,12 @@ use tagged::PairTally;
 fn lone(t: PairTally, tag: u64, left: u64) -> PairTally
     ensures { result ≡ alone_at t tag left }
 {
-    let open = negated(left == 0);
+    let open = left != 0;
     let bought = is_bought(tag);
     PairTally {
-        pairs: t.pairs,
-        debit: either(t.debit, both(open, bought)),
-        credit: either(t.credit, both(open, negated(bought))),
+        debit: t.debit || open && bought,
+        credit: t.credit || open && !bought,
+        ..t
     }
 }
 
@@ -29,10 +29,8 @@ pub fn loners(t: PairTally, tags: &[u64; 16], left: &[u64; 16], n: usize) -> Pai
     ensures { Loners t tags.now left.now n result }
 {
     let mut r = t;
-    let mut i = 0;
-    while i < n {
+    for i in 0..n {
         r = lone(r, tags[i], left[i]);
-        i += 1;
     }
     r
 }
@@ -44,14 +42,20 @@ pub fn joined(a: PairTally, b: PairTally) -> PairTally
 {
     PairTally {
         pairs: a.pairs + b.pairs,
-        debit: either(a.debit, b.debit),
-        credit: either(a.credit, b.credit),
+        debit: a.debit || b.debit,
+        credit: a.credit || b.credit,
     }
 }
 
-// The class that pairs and loners give.
-pub fn pair_class(t: PairTally) -> u64
-    ensures { result ≡ tally_class t }
+// The class that pairs and loners give: a debit where there is no credit.
+pub fn pair_class(t: PairTally) -> Class
+    ensures { class_number result ≡ tally_class t }
 {
-    pick(t.credit, pick(t.debit, 0, 2), 1)
+    if !t.credit {
+        Class::Debit
+    } else if t.debit {
+        Class::Undetermined
+    } else {
+        Class::Credit
+    }
 }

@@ -6,7 +6,6 @@ ghost use Rattle.rules.specs.OpenContracts.{sign, shows_other};
 ghost use Rattle.keys.specs.Tags.{is_bought};
 ghost use Rattle.tagged.specs.Tags.{matched_at, after_match, InSequence, Counts, Meets};
 
-use amounts::pick;
 use figure::adjusted;
 use keys::{is_bought, sign_of};
 use tagged::Step;
@@ -17,10 +16,10 @@ fn after_match(s: Step, debit: bool, figure: i64) -> Step
     ensures { result ≡ after_match s debit figure }
 {
     Step {
-        debits: s.debits + pick(debit, 1, 0),
-        credits: s.credits + pick(debit, 0, 1),
-        group: s.group,
-        figure: figure,
+        debits: s.debits + u64::from(debit),
+        credits: s.credits + u64::from(!debit),
+        figure,
+        ..s
     }
 }
 

@@ -7,10 +7,11 @@ ghost use Rattle.rules.specs.Pairing as pairing;
 ghost use Rattle.sorting.specs.Keys.{with_places};
 ghost use Rattle.keys.specs.Tags.{second_tag, legs_in, Tagged};
 ghost use Rattle.tagged.specs.Tags.{InSequence};
+ghost use Rattle.answers.specs.Answers.{class_number};
 ghost use Rattle.loners.specs.Tallies.{tally_class};
 ghost use Rattle.walks.specs.Both.{tallied, BothWalks};
 
-use choice::{both, either, negated};
+use answers::Class;
 use keys::{arrange, place_of, second_tag};
 use loners::{joined, loners, pair_class};
 use sorting::sort;
@@ -20,8 +21,7 @@ use walk::walk;
 #[derive(Clone, Copy)]
 pub struct Paired {
     pub pairings: u64,
-    // 1 debit, 2 credit, 0 undetermined.
-    pub class: u64,
+    pub class: Class,
 }
 
 // The legs' tags of the second walk, each with its leg's place.
@@ -30,10 +30,8 @@ fn second_places(tags: &[u64; 16], n: usize, places: &mut [u64; 16])
     ensures places_after { take n places.new ≡ with_places 0 (map second_tag (take n tags.now)) }
     ensures places_len { length places.new ≡ 16 }
 {
-    let mut i = 0;
-    while i < n {
+    for i in 0..n {
         places[i] = place_of(second_tag(tags[i]), i);
-        i += 1;
     }
 }
 
@@ -63,7 +61,7 @@ fn tally(tags: &[u64; 16], left: &mut [u64; 16], n: usize, european: bool) -> Pa
         credit: false,
     };
     let alone = loners(none, tags, left, n);
-    if either(european, negated(both(alone.debit, alone.credit))) {
+    if european || !(alone.debit && alone.credit) {
         return joined(pairs, alone);
     }
     joined(pairs, second_walk(tags, left, n))
@@ -72,7 +70,7 @@ fn tally(tags: &[u64; 16], left: &mut [u64; 16], n: usize, european: bool) -> Pa
 // The legs are listed latest walked first. The second walk takes what the first left, unless the class is European.
 pub fn both_walks(tags: &[u64; 16], left: &mut [u64; 16], n: usize, european: bool) -> Paired
     requires { InSequence n tags.now left.old }
-    ensures { (root : ℕ) → BothWalks european (legs_in root false n tags.now left.old) result.pairings result.class }
+    ensures { (root : ℕ) → BothWalks european (legs_in root false n tags.now left.old) result.pairings (class_number result.class) }
 {
     let t = tally(tags, left, n, european);
     Paired {

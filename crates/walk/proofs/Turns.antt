@@ -3,7 +3,7 @@
 use mathlib.Core.Path.{◌≡◌, refl, sym, ap, ap₂, ◌∙◌}
 use mathlib.Core.Logic.{◌⊎◌, inl, inr}
 use mathlib.Core.List.{List}
-use mathlib.Core.Bool.{Bool, true, false, not, ◌&&◌}
+use mathlib.Core.Bool.{Bool, true, false}
 use Prim.Native.Nat.{ℕ, ◌≤◌, ◌-◌, ◌<◌, ◌+◌, min}
 use native.Mathlib.Nat.{pos_of_ne-zero}
 use native.Mathlib.Omega.{arith}
@@ -14,7 +14,6 @@ use borrow.Author.Tests.{eqb-true, eqb-false}
 use mir.Syntax.{w64}
 use mir.Val.{to_z, of_z}
 use Rattle.rules.specs.OpenContracts.{sign, shows_other, open_contracts}
-use Rattle.rules.proofs.Tests.{and_both, not_eq}
 use Rattle.open_contracts.proofs.Searching as searching
 use Rattle.open_contracts.proofs.Searching.{Searching}
 use Rattle.figure.proofs.Small.{held}
@@ -70,27 +69,20 @@ module _ {tags left₀ left : List ℕ} {n i : ℕ} {s r : Step} {x j : ℕ} (h 
     pub test_small : (nat_abs (to_z w64 (of_z w64 r.figure)) ≤ 1000000) × (nat_abs (to_z w64 (of_z w64 sgn)) ≤ 1)
     test_small = (rw figure_read (omega (arith, figure_small)), rw (sign_read (is_bought tx) sgn sign_is) (sign_small (is_bought tx)))
 
-    module _ {both shows : Bool} (shows_is : shows ≡ shows_other (to_z w64 (of_z w64 r.figure)) (to_z w64 (of_z w64 sgn))) (both_is : both ≡ not (eqb x 0) && shows) where
-      shown : shows ≡ shows_other r.figure (sign (is_bought tx))
-      shown = shows_is ∙ ap₂ (λ (z k : ℤ). shows_other z k) figure_read (sign_read (is_bought tx) sgn sign_is)
+    pub shown : {shows : Bool} → shows ≡ shows_other (to_z w64 (of_z w64 r.figure)) (to_z w64 (of_z w64 sgn)) → shows_other r.figure (sign (is_bought tx)) ≡ shows
+    shown e = sym (e ∙ ap₂ (λ (z k : ℤ). shows_other z k) figure_read (sign_read (is_bought tx) sgn sign_is))
 
-      pub goes_on : both ≡ true → (0 < x) × (shows_other r.figure (sign (is_bought tx)) ≡ true)
-      goes_on e =
-          let t = and_both (not (eqb x 0)) shows (sym both_is ∙ e) in
-          (pos_of_ne-zero (eqb-false x 0 (not_eq (eqb x 0) t.0)), sym shown ∙ t.1)
+  -- no leg is behind: the leg has nothing left, or the figure does not show the other side
+  pub none_behind : n ≤ j → (x ≡ 0) ⊎ (shows_other r.figure (sign (is_bought tx)) ≡ false)
+  none_behind l = go (eqb x 0) refl (shows_other r.figure (sign (is_bought tx))) refl
+    where
+      go : (b : Bool) → eqb x 0 ≡ b → (shows : Bool) → shows_other r.figure (sign (is_bought tx)) ≡ shows → (x ≡ 0) ⊎ (shows_other r.figure (sign (is_bought tx)) ≡ false)
+      go true e shows f = inl (eqb-true x 0 e)
+      go false e false f = inr f
+      go false e true f = absurd (omega (arith, inside tags left n v.sequence false 0 i h x j r.figure (v.searching 0 false) (pos_of_ne-zero (eqb-false x 0 e)) f v.within))
 
-      pub stops : both ≡ false → (x ≡ 0) ⊎ (shows_other r.figure (sign (is_bought tx)) ≡ false)
-      stops e = go (eqb x 0) refl (sym both_is ∙ e)
-        where
-          go : (b : Bool) → eqb x 0 ≡ b → not b && shows ≡ false → (x ≡ 0) ⊎ (shows_other r.figure (sign (is_bought tx)) ≡ false)
-          go true z k = inl (eqb-true x 0 z)
-          go false z k = inr (sym shown ∙ k)
-
-  module _ (some : 0 < x) (shown : shows_other r.figure (sign (is_bought tx)) ≡ true) where
-    -- the leg that is met
-    pub met_within : j < n
-    met_within = inside tags left n v.sequence false 0 i h x j r.figure (v.searching 0 false) some shown v.within
-
+  -- the leg that is met
+  module _ (met_within : j < n) (some : 0 < x) (shown : shows_other r.figure (sign (is_bought tx)) ≡ true) where
     all_met : matched_at tx x (get_or tags j 0) y ≡ min x y
     all_met = meets tags left n v.sequence false 0 i h x j r.figure (v.searching 0 false) some shown v.past met_within
 

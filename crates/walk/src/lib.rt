@@ -7,8 +7,6 @@ ghost use Rattle.rules.specs.OpenContracts.{sign, shows_other};
 ghost use Rattle.keys.specs.Tags.{is_bought};
 ghost use Rattle.tagged.specs.Tags.{tally_of, InSequence, Counts, OneSideOpen, Stands, Reaches, Walks};
 
-use amounts::smaller;
-use choice::both;
 use figure::{adjusted, begun, shows_other};
 use keys::{group_of, sign_of};
 use matching::meet;
@@ -26,11 +24,11 @@ fn search(tags: &[u64; 16], left: &mut [u64; 16], i: usize, n: usize, s: Step) -
     let sign = sign_of(tags[i]);
     let mut x = left[i];
     let mut r = s;
-    let mut j = i + 1;
-    while both(x != 0, shows_other(r.figure, sign)) {
-        let at = j;
-        j += 1;
-        let m = smaller(x, left[at]);
+    for at in i + 1..n {
+        if x == 0 || !shows_other(r.figure, sign) {
+            break;
+        }
+        let m = x.min(left[at]);
         // A leg of the group that has nothing left is passed.
         if m != 0 {
             r = meet(tags, left, i, at, n, m, r);
@@ -53,10 +51,9 @@ fn reach(tags: &[u64; 16], left: &mut [u64; 16], i: usize, n: usize, s: Step) ->
     let group = group_of(tx);
     let f = begun(s.figure, s.group, group);
     let mut r = Step {
-        debits: s.debits,
-        credits: s.credits,
-        group: group,
+        group,
         figure: f,
+        ..s
     };
     if shows_other(f, sign) {
         r = search(tags, left, i, n, r);
@@ -78,9 +75,7 @@ pub fn walk(tags: &[u64; 16], left: &mut [u64; 16], n: usize) -> PairTally
         group: 0,
         figure: 0,
     };
-    let mut i = n;
-    while 0 < i {
-        i -= 1;
+    for i in (0..n).rev() {
         s = reach(tags, left, i, n, s);
     }
     PairTally {

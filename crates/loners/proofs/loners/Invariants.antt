@@ -1,4 +1,4 @@
-use Rattle.std.proofs.Common.{◌≡◌, ◌-◌, ◌≤◌, ℕ, Bool, drop}
+use Rattle.std.proofs.Common.{◌≡◌, ◌≤◌, ℕ, Bool, drop}
 use Rattle.keys.specs.Tags.{legs_in}
 use Rattle.loners.specs.Tallies.{all_alone}
 use Rattle.loners.proofs.loners.Given as goal
@@ -10,6 +10,3 @@ invariant-loop-i l = record {
   within : l.i ≤ l.n;
   pairs : l.r.pairs ≡ l.fn.t.pairs;
 }
-
-abbrev pub decreases-loop-i : goal.decreases-loop-i
-decreases-loop-i l = l.n - l.i

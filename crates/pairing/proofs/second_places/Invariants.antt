@@ -1,4 +1,4 @@
-use Rattle.std.proofs.Common.{◌≡◌, ◌-◌, ◌≤◌, length, take, map}
+use Rattle.std.proofs.Common.{◌≡◌, ◌≤◌, length, take, map}
 use Rattle.sorting.specs.Keys.{with_places}
 use Rattle.keys.specs.Tags.{second_tag}
 use Rattle.pairing.proofs.second_places.Given as goal
@@ -10,6 +10,3 @@ invariant-loop-i l = record {
   len : length l.places ≡ 16;
   within : l.i ≤ l.n;
 }
-
-abbrev pub decreases-loop-i : goal.decreases-loop-i
-decreases-loop-i l = l.n - l.i

@@ -1,16 +1,23 @@
-use Rattle.std.proofs.Common.{Bool, not, ◌||◌, sym, ap, ◌∙◌, arith}
-use Rattle.rules.proofs.Tests.{or_neither}
+use Rattle.std.proofs.Common.{◌≡◌, true, false, not, ◌&&◌, ◌||◌, refl, sym, ◌∙◌, arith}
 use Rattle.walks.proofs.Both.{one_walk, two_walks, first_few, second_few}
 use Rattle.pairing.proofs.tally.Goals as goal
+use Rattle.pairing.proofs.tally.Goals.{then-european-via-then-european, then-european-via-else-european+then-not-alone, then-alone, else-alone}
 
 pub joined-requires : goal.joined-requires
 joined-requires c = (first_few 0 c.requires.valid.few c.walk-pairs.ensures, omega (arith, c.loners-alone.ensures.pairs))
 
 -- The first walk and its loners.
-pub returns-then-either : goal.returns-then-either
-returns-then-either c root =
-    let test = c.either.ensures ∙ ap (λ (b : Bool). c.args.european || b) (c.negated.ensures ∙ ap not c.both.ensures) in
-    one_walk root c.requires.valid.few c.walk-pairs.ensures c.args.european c.loners-alone.result c.joined.result c.loners-alone.ensures (sym test ∙ c.if-either.true) c.joined.ensures
+pub returns-then-european : goal.returns-then-european
+returns-then-european c root =
+    let alone = c.loners-alone.result in
+    let test : c.args.european || not (alone.debit && alone.credit) ≡ true = elim c.then-european.branch [
+      | then-european-via-then-european w ↦ rw w.if-european.true refl
+      | then-european-via-else-european+then-not-alone w ↦ elim w.if-alone.branch [
+        | then-alone k ↦ let e : alone.credit ≡ false = sym k.value-is ∙ w.if-not-alone.true in rw (w.if-european.false, k.if-alone.true, e) refl
+        | else-alone k ↦ rw (w.if-european.false, k.if-alone.false) refl
+      ]
+    ] in
+    one_walk root c.requires.valid.few c.walk-pairs.ensures c.args.european alone c.joined.result c.loners-alone.ensures test c.joined.ensures
 
 pub joined-requires-2 : goal.joined-requires-2
 joined-requires-2 c =
@@ -20,5 +27,4 @@ joined-requires-2 c =
 -- The second walk too, where both sides are left open.
 pub returns : goal.returns
 returns c root =
-    let no = (or_neither c.args.european _ (sym c.either.ensures ∙ c.if-either.false)).0 in
-    rw no (two_walks root c.requires.valid.few c.walk-pairs.ensures c.second_walk.result (c.second_walk.ensures root) c.joined-2.result c.joined-2.ensures)
+    rw c.if-european.false (two_walks root c.requires.valid.few c.walk-pairs.ensures c.second_walk.result (c.second_walk.ensures root) c.joined-2.result c.joined-2.ensures)

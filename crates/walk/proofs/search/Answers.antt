@@ -1,6 +1,7 @@
-use Rattle.std.proofs.Common.{arith}
-use Rattle.walk.proofs.Turns.{begins, test_small, goes_on, stops, met_within, again, turned, skipped, reaches, counts}
+use Rattle.std.proofs.Common.{◌∙◌, inl, inr, arith}
+use Rattle.walk.proofs.Turns.{begins, test_small, shown, none_behind, again, turned, skipped, reaches, counts}
 use Rattle.walk.proofs.search.Goals as goal
+use Rattle.walk.proofs.search.Goals.{then-m-ne0, else-m-ne0, else-loop-at-test, then-loop-at-test+then-x-eq0, then-x-eq0-via-then-x-eq0, then-x-eq0-via-else-x-eq0+then-not-shows_other}
 
 pub loop-at-init : goal.loop-at-init
 loop-at-init c =
@@ -10,48 +11,32 @@ loop-at-init c =
 pub shows_other-requires : goal.shows_other-requires
 shows_other-requires c = test_small (omega arith) c.loop-at.invariant c.sign_of-sign.ensures
 
-pub bounds-left-at : goal.bounds-left-at
-bounds-left-at c =
-    let t = goes_on (omega arith) c.loop-at.invariant c.sign_of-sign.ensures c.shows_other.ensures c.both.ensures c.loop-at-test.true in
-    omega (arith, met_within (omega arith) c.loop-at.invariant t.0 t.1, c.loop-at.invariant.sequence.valid.few)
-
-pub meet-r-requires-clause-in_sequence : goal.meet-r-requires-clause-in_sequence
-meet-r-requires-clause-in_sequence c =
-    let v = c.loop-at.invariant in
-    let t = goes_on (omega arith) v c.sign_of-sign.ensures c.shows_other.ensures c.both.ensures c.loop-at-test.true in
-    let l = met_within (omega arith) v t.0 t.1 in
-    (v.sequence, v.past, l, omega (arith, l, v.sequence.valid.few))
-
 pub meet-r-requires-clause-matched : goal.meet-r-requires-clause-matched
 meet-r-requires-clause-matched c =
     let v = c.loop-at.invariant in
-    let t = goes_on (omega arith) v c.sign_of-sign.ensures c.shows_other.ensures c.both.ensures c.loop-at-test.true in
-    (omega arith, again (omega arith) v t.0 t.1 c.smaller-m.ensures, λ root second. (v.searching root second).figure, t.1)
-
-pub loop-at-smaller-then-m-ne0 : goal.loop-at-smaller-then-m-ne0
-loop-at-smaller-then-m-ne0 c =
-    let t = goes_on (omega arith) c.loop-at.invariant c.sign_of-sign.ensures c.shows_other.ensures c.both.ensures c.loop-at-test.true in
-    omega (arith, met_within (omega arith) c.loop-at.invariant t.0 t.1)
-
-pub loop-at-preserved-then-m-ne0 : goal.loop-at-preserved-then-m-ne0
-loop-at-preserved-then-m-ne0 c =
-    let t = goes_on (omega arith) c.loop-at.invariant c.sign_of-sign.ensures c.shows_other.ensures c.both.ensures c.loop-at-test.true in
-    turned (omega arith) c.loop-at.invariant t.0 t.1 c.smaller-m.ensures c.meet-r.ensures
-
-pub loop-at-smaller : goal.loop-at-smaller
-loop-at-smaller c =
-    let t = goes_on (omega arith) c.loop-at.invariant c.sign_of-sign.ensures c.shows_other.ensures c.both.ensures c.loop-at-test.true in
-    omega (arith, met_within (omega arith) c.loop-at.invariant t.0 t.1)
+    let e = shown (omega arith) v c.sign_of-sign.ensures c.shows_other.ensures ∙ c.if-not-shows_other.false in
+    (omega arith, again (omega arith) v (omega arith) (omega arith) e c.min-m.ensures, λ root second. (v.searching root second).figure, e)
 
 pub loop-at-preserved : goal.loop-at-preserved
 loop-at-preserved c =
-    let t = goes_on (omega arith) c.loop-at.invariant c.sign_of-sign.ensures c.shows_other.ensures c.both.ensures c.loop-at-test.true in
-    skipped (omega arith) c.loop-at.invariant t.0 t.1 c.smaller-m.ensures (omega arith)
+    let v = c.loop-at.invariant in
+    let e = shown (omega arith) v c.sign_of-sign.ensures c.shows_other.ensures ∙ c.if-not-shows_other.false in
+    elim c.if-m-ne0.branch [
+      | then-m-ne0 w ↦ rw (w.left-is, w.r-is, w.x-is) (turned (omega arith) v (omega arith) (omega arith) e c.min-m.ensures w.meet-r.ensures)
+      | else-m-ne0 w ↦ rw (w.left-is, w.r-is, w.x-is) (skipped (omega arith) v (omega arith) (omega arith) e c.min-m.ensures (omega arith))
+    ]
 
 pub returns-clause-reaches : goal.returns-clause-reaches
 returns-clause-reaches c =
-    let e = stops (omega arith) c.loop-at.invariant c.sign_of-sign.ensures c.shows_other.ensures c.both.ensures c.loop-at-test.false in
-    reaches (omega arith) c.loop-at.invariant c.requires.in_sequence.0.full e
+    let v = c.loop-at.invariant in
+    reaches (omega arith) v c.requires.in_sequence.0.full
+    (elim c.loop-at-test.branch [
+      | else-loop-at-test w ↦ none_behind (omega arith) v (omega arith)
+      | then-loop-at-test+then-x-eq0 w ↦ elim w.then-x-eq0.branch [
+        | then-x-eq0-via-then-x-eq0 k ↦ inl (omega arith)
+        | then-x-eq0-via-else-x-eq0+then-not-shows_other k ↦ inr (shown (omega arith) v c.sign_of-sign.ensures k.shows_other.ensures ∙ k.if-not-shows_other.true)
+      ]
+    ])
 
 pub returns-clause-counts_after : goal.returns-clause-counts_after
 returns-clause-counts_after c = (counts (omega arith) c.loop-at.invariant, c.loop-at.invariant.group)

@@ -1,9 +1,5 @@
-use Rattle.std.proofs.Common.{◌-◌}
 use Rattle.walk.proofs.Turns.{Turned}
 use Rattle.walk.proofs.search.Given as goal
 
 abbrev pub invariant-loop-at : goal.invariant-loop-at
-invariant-loop-at l = Turned l.tags l.fn.left l.left l.n l.i l.fn.s l.r l.x l.j
-
-abbrev pub decreases-loop-at : goal.decreases-loop-at
-decreases-loop-at l = l.n - l.j
+invariant-loop-at l = Turned l.tags l.fn.left l.left l.n l.i l.fn.s l.r l.x l.at

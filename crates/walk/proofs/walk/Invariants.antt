@@ -12,6 +12,3 @@ invariant-loop-i l = record {
   few : l.s.debits + l.s.credits + 16 * l.i ≤ 256;
   stands : Stands l.tags l.left l.n l.i l.s;
 }
-
-abbrev pub decreases-loop-i : goal.decreases-loop-i
-decreases-loop-i l = l.i
