@@ -1,32 +1,26 @@
 // The distance from a reference that is set for it: how many ticks, how large a tick, and the ticks as a price.
 #![tactic(auto)]
 
-ghost use Rattle.std.specs.Prelude.{◌≡◌, cond, ◌≤◌};
+ghost use Rattle.std.specs.Prelude.{◌≡◌, ◌≤◌};
 ghost use Rattle.rules.specs.Market.{acceptable_ticks, tick_at};
 ghost use Rattle.rules.specs.Quantities.{distance};
 
 use rules::{Mills, Settings, Ticks};
-
-fn pick_ticks(c: bool, x: Ticks, y: Ticks) -> Ticks
-    ensures { result ≡ cond c x y }
-{
-    if c { x } else { y }
-}
 
 // The acceptable tick distance of the reference's band.
 #[tactic(auto, unfolding(rules::specs::Market::acceptable_ticks))]
 pub fn acceptable_ticks(st: Settings, r: Mills) -> Ticks
     ensures { result ≡ acceptable_ticks st r }
 {
-    pick_ticks(
-        r.0 < 1000,
-        st.atd0,
-        pick_ticks(
-            r.0 < 3000,
-            st.atd1,
-            pick_ticks(r.0 < 10000, st.atd2, st.atd3),
-        ),
-    )
+    if r.0 < 1000 {
+        st.atd0
+    } else if r.0 < 3000 {
+        st.atd1
+    } else if r.0 < 10000 {
+        st.atd2
+    } else {
+        st.atd3
+    }
 }
 
 #[tactic(auto, unfolding(rules::specs::Market::tick_at))]
