@@ -4,8 +4,6 @@
 ghost use Rattle.std.specs.Prelude.{◌≡◌};
 ghost use Rattle.rules.specs.Checks.{put_test, call_test};
 
-use chain::also;
-use choice::{both, negated};
 use rules::{Market, Mills, Series};
 
 // Check 20: a put at its strike or above.
@@ -13,16 +11,13 @@ use rules::{Market, Mills, Series};
 pub fn put_test(s: Series, paid: Mills) -> bool
     ensures { result ≡ put_test s paid }
 {
-    both(negated(s.call), s.strike.0 <= paid.0)
+    !s.call && s.strike.0 <= paid.0
 }
 
 // Check 21: a call at the underlying's value or above. `adjusted`: the class is.
+#[tactic(auto, unfolding(rules::specs::Checks::call_test, rules::specs::Lists::every))]
 pub fn call_test(adjusted: bool, m: Market, s: Series, paid: Mills) -> bool
     ensures { result ≡ call_test adjusted m s paid }
 {
-    let held = also(true, s.call);
-    let held = also(held, 0 < m.underlying.0);
-    let held = also(held, m.underlying.0 <= paid.0);
-    let held = also(held, negated(adjusted));
-    also(held, m.extended == 0)
+    s.call && 0 < m.underlying.0 && m.underlying.0 <= paid.0 && !adjusted && m.extended == 0
 }

@@ -4,7 +4,6 @@
 ghost use Rattle.std.specs.Prelude.{◌≡◌, ◌≤◌};
 ghost use Rattle.rules.specs.Market.{national, own, at_or_past, is_beyond};
 
-use choice::choose;
 use rules::{Market, Mills};
 
 // The national best of the other side.
@@ -25,7 +24,7 @@ pub fn own(bought: bool, m: Market) -> Mills
 pub fn at_or_past(bought: bool, x: Mills, y: Mills) -> bool
     ensures { result ≡ at_or_past bought x.0 y.0 }
 {
-    choose(bought, y.0 <= x.0, x.0 <= y.0)
+    if bought { y.0 <= x.0 } else { x.0 <= y.0 }
 }
 
 // An amount received is compared with the reference less D: an amount may be as large as its type allows, and the
@@ -35,10 +34,8 @@ pub fn is_beyond(bought: bool, amount: Mills, reference: Mills, d: Mills) -> boo
     ensures { result ≡ is_beyond bought amount.0 reference.0 d.0 }
 {
     if bought {
-        return reference.0 + d.0 < amount.0;
+        reference.0 + d.0 < amount.0
+    } else {
+        amount.0 < reference.0.saturating_sub(d.0)
     }
-    if reference.0 < d.0 {
-        return false;
-    }
-    amount.0 < reference.0 - d.0
 }

@@ -3,45 +3,30 @@
 
 ghost use Rattle.std.specs.Prelude.{◌≡◌, List, length};
 ghost use Rattle.rules.specs.declared.Leg.{Leg};
-ghost use Rattle.rules.specs.Order.{size_of, price_of, shares_of, terms_of, has_shares, is_simple};
+ghost use Rattle.rules.specs.Order.{price_of, shares_of, terms_of, has_shares, is_simple};
 ghost use Rattle.rules.specs.Checks.{is_positive, is_negative};
 
-use choice::{both, negated};
 use rules::{Mills, Price, Shares, Terms};
 
-// A signed number's size.
-fn size_of(z: i64) -> u64
-    ensures { result ≡ size_of z }
-{
-    if z < 0 {
-        // The least integer has no opposite: one is added before the sign turns, and again after.
-        let less = -(z + 1);
-        return (less as u64) + 1;
-    }
-    z as u64
-}
-
 // The price's sign and size.
-#[tactic(auto, using(crate::proofs::Signs::priced, crate::proofs::Signs::sign, crate::proofs::Signs::size_held), unfolding(rules::specs::Order::price_of))]
+#[tactic(auto, unfolding(rules::specs::Order::price_of))]
 pub fn price_of(price: i64) -> Price
     ensures { result ≡ price_of price }
 {
-    let size = size_of(price);
     Price {
         received: price < 0,
-        size: Mills(size),
+        size: Mills(price.unsigned_abs()),
     }
 }
 
 // The share count's side and size.
-#[tactic(auto, using(crate::proofs::Signs::shared, crate::proofs::Signs::sign, crate::proofs::Signs::size_held), unfolding(rules::specs::Order::shares_of))]
+#[tactic(auto, unfolding(rules::specs::Order::shares_of))]
 pub fn shares_of(shares: i64) -> Shares
     ensures { result ≡ shares_of shares }
 {
-    let size = size_of(shares);
     Shares {
-        bought: negated(shares < 0),
-        size: size,
+        bought: 0 <= shares,
+        size: shares.unsigned_abs(),
     }
 }
 
@@ -49,28 +34,26 @@ pub fn shares_of(shares: i64) -> Shares
 pub fn terms_of(price: i64, kind: u64, stop: u64, manual: u64, opening: u64, shares: i64) -> Terms
     ensures { result ≡ terms_of price kind stop manual opening shares }
 {
-    let signed = price_of(price);
-    let attached = shares_of(shares);
     Terms {
-        price: signed,
-        kind: kind,
-        stop: stop,
-        manual: manual,
-        opening: opening,
-        shares: attached,
+        price: price_of(price),
+        kind,
+        stop,
+        manual,
+        opening,
+        shares: shares_of(shares),
     }
 }
 
 pub fn is_positive(p: Price) -> bool
     ensures { result ≡ is_positive p }
 {
-    both(negated(p.received), 0 < p.size.0)
+    !p.received && 0 < p.size.0
 }
 
 pub fn is_negative(p: Price) -> bool
     ensures { result ≡ is_negative p }
 {
-    both(p.received, 0 < p.size.0)
+    p.received && 0 < p.size.0
 }
 
 // Whether shares are attached.
@@ -86,6 +69,5 @@ pub fn has_shares(t: Terms) -> bool
 pub fn is_simple(t: Terms, legs: usize) -> bool
     ensures { (ls : List Leg) → length ls ≡ legs → result ≡ is_simple t ls }
 {
-    let none = negated(has_shares(t));
-    both(none, legs == 1)
+    !has_shares(t) && legs == 1
 }
