@@ -5,7 +5,6 @@ ghost use Rattle.std.specs.Prelude.{◌≡◌, true, ◌≤◌};
 ghost use Rattle.rules.specs.Market.{settings_hold, market_holds};
 ghost use Rattle.rules.specs.Quote.{comparison, set_distance, is_inverted, is_quoting, quote_inversion};
 
-use choice::{both, choose, either};
 use distance::{distance, tick_at};
 use reference::is_unusable;
 use rules::{Market, Mills, Settings};
@@ -16,9 +15,10 @@ fn comparison(bought: bool, m: Market) -> Mills
     ensures { result ≡ comparison bought m }
 {
     if is_unusable(m) {
-        return own(bought, m);
+        own(bought, m)
+    } else {
+        national(bought, m)
     }
-    national(bought, m)
 }
 
 // The set ticks as mills, of the tick at `p`.
@@ -40,21 +40,19 @@ pub fn is_inverted(bought: bool, st: Settings, m: Market, price: Mills) -> bool
     let p = comparison(bought, m);
     let o = own(bought, m);
     let d = set_distance(st, p);
-    both(
-        p.0 != 0,
-        choose(
-            o.0 == p.0,
-            is_beyond(bought, price, p, d),
-            at_or_past(bought, price, p),
-        ),
-    )
+    let past = if o.0 == p.0 {
+        is_beyond(bought, price, p, d)
+    } else {
+        at_or_past(bought, price, p)
+    };
+    p.0 != 0 && past
 }
 
 // Not in a halt, nor before the opening where the option is not open elsewhere.
 fn is_quoting(m: Market) -> bool
     ensures { result ≡ is_quoting m }
 {
-    either(m.phase == 1, both(m.phase == 0, m.elsewhere != 0))
+    m.phase == 1 || m.phase == 0 && m.elsewhere != 0
 }
 
 #[tactic(auto, unfolding(rules::specs::Quote::quote_inversion))]
@@ -62,11 +60,5 @@ pub fn quote_inversion(st: Settings, m: Market, bid: Mills, offer: Mills) -> boo
     requires { (settings_hold st ≡ true) × (market_holds m ≡ true) }
     ensures { result ≡ quote_inversion st m bid offer }
 {
-    both(
-        is_quoting(m),
-        either(
-            is_inverted(true, st, m, bid),
-            is_inverted(false, st, m, offer),
-        ),
-    )
+    is_quoting(m) && (is_inverted(true, st, m, bid) || is_inverted(false, st, m, offer))
 }
