@@ -5,8 +5,8 @@ use mathlib.Core.Logic.{◌⊎◌, inl, inr}
 use mathlib.Core.Bool.{Bool, true, false, cond}
 use Prim.Native.Nat.{ℕ, suc, ◌+◌, ◌-◌, ◌*◌, ◌/◌, ◌%◌, ◌≤◌, ◌<◌}
 use native.Mathlib.Omega.{arith}
-use lib.ListN.{length, take, get_or, length-map, get_or-map}
-use lib.Seq.{get_or-take}
+use lib.ListN.{length, take, drop, get_or, length-append, length-map, get_or-map, take-append-drop}
+use lib.Seq.{get_or-take, take_at, length-take-le}
 use lib.Dec.{ltb}
 use borrow.Author.Tests.{ltb-true, ltb-false, lt-ltb, le-ltb}
 use Rattle.rules.specs.declared.Series.{Series}
@@ -136,9 +136,9 @@ module _ (second : Bool) (ls : List Leg) (few : length ls ≤ 16) (range : All (
       both (p ∷ ps) h k = ((h.0, k.0), both ps h.1 k.1)
 
   module _ (n : ℕ) (many : length ls ≡ n) (places sizes tags left : List ℕ)
-      (order : take n places ≡ sort_keys numbers)
+      (order : places ≡ sort_keys numbers)
       (counts : take n sizes ≡ map (λ x. x.size) ls)
-      (arranged : Arranged n places sizes tags left) where
+      (arranged : Arranged places sizes (take n tags) (take n left)) where
     pub arranged_tags : take n tags ≡ map (tag_of second) (sequenced second ls)
     arranged_tags = arranged.each_tag ∙ ap (map (λ p. p / 16)) order ∙ each (sort_keys numbers) says ∙ ap (map (tag_of second)) (sym by_tags)
       where
@@ -187,14 +187,30 @@ module _ (second : Bool) (ls : List Leg) (few : length ls ≤ 16) (range : All (
         ∙ ap₂ (legs_from root second) arranged_tags arranged_sizes
         ∙ legs_back root second (sequenced second ls) range_sequenced (roots_sequenced root one)
 
-    pub arranged_tagged : Tagged n tags
-    arranged_tagged =
+    pub arranged_tagged : length tags ≡ 16 → Tagged n tags
+    arranged_tagged full =
         record {
           few = rw many at few;
-          full = arranged.full_tags;
+          full = full;
           small = rw arranged_tags (all_map (λ t. t < 40000000000000000) (tag_of second) (sequenced second ls) (each (sequenced second ls) range_sequenced));
         }
       where
         each : (xs : List Leg) → All (λ x. InRange x.series) xs → All (λ x. tag_of second x < 40000000000000000) xs
         each [] h = tt
         each (x ∷ xs) h = (tag_small second x h.0, each xs h.1)
+
+-- ---- the first places of an array, sorted and then arranged: `qs` is what sorting left of the first of `xs`, `ts` and `ss` are what arranging left
+
+put_back_length : (n : ℕ) (ts xs : List ℕ) → length ts ≡ length (take n xs) → length (ts ++ drop n xs) ≡ length xs
+put_back_length n ts xs e = omega (arith, length-append ts (drop n xs), length-append (take n xs) (drop n xs), ap length (take-append-drop n xs))
+
+pub arranged_front : (n : ℕ) (qs xs sizes ts ss ws : List ℕ) → n ≤ length xs → n ≤ length ws → length qs ≡ length (take n xs) → length ts ≡ length (take n (qs ++ drop n xs)) → length ss ≡ length (take n ws)
+    → Arranged (take n (qs ++ drop n xs)) sizes ts ss
+    → let tags = ts ++ drop n (qs ++ drop n xs) in
+      let left = ss ++ drop n ws in Arranged qs sizes (take n tags) (take n left) × (length tags ≡ length xs) × (length left ≡ length ws)
+arranged_front n qs xs sizes ts ss ws h k e f g a =
+    let long : length qs ≡ n = e ∙ length-take-le n xs h in
+    let first = take_at qs (drop n xs) n long in
+    let tags = take_at ts (drop n (qs ++ drop n xs)) n (f ∙ ap length first ∙ long) in
+    let left = take_at ss (drop n ws) n (g ∙ length-take-le n ws k) in
+    (record { each_tag = tags ∙ rw first at a.each_tag; each_left = left ∙ rw first at a.each_left }, put_back_length n ts (qs ++ drop n xs) f ∙ put_back_length n qs xs e, put_back_length n ss ws g)

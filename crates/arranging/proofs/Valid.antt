@@ -99,9 +99,9 @@ counts_within (x ∷ ls) h = ((h.0.least, h.0.most), counts_within ls h.1)
 
 -- valid legs, sorted by their tags and arranged
 module _ (ls : List Leg) (v : AreValid ls) (n : ℕ) (many : length ls ≡ n) (few : n ≤ 16) (places sizes tags left : List ℕ)
-    (order : take n places ≡ sort_keys (with_places 0 (map (tag_of false) ls)))
+    (order : places ≡ sort_keys (with_places 0 (map (tag_of false) ls)))
     (counts : take n sizes ≡ map (λ x. x.size) ls)
-    (arranged : Arranged n places sizes tags left) where
+    (arranged : Arranged places sizes (take n tags) (take n left)) where
   short : length ls ≤ 16
   short = rw many few
 
@@ -111,12 +111,12 @@ module _ (ls : List Leg) (v : AreValid ls) (n : ℕ) (many : length ls ≡ n) (f
   apart : EachTwo Apart ls
   apart = keys_apart ls v
 
-  pub valid_tags : ValidTags n tags left
-  valid_tags =
+  pub valid_tags : length tags ≡ 16 → length left ≡ 16 → ValidTags n tags left
+  valid_tags full_tags full_left =
       let s = valid_sorted ls v in
       record {
-        valid = arranged_tagged false ls short range apart n many places sizes tags left order counts arranged;
-        full = arranged.full_left;
+        valid = arranged_tagged false ls short range apart n many places sizes tags left order counts arranged full_tags;
+        full = full_left;
         rising = arranged_rising false ls short range apart n many places sizes tags left order counts arranged;
         counts = rw (arranged_sizes false ls short range apart n many places sizes tags left order counts arranged) (counts_within (by_strike ls) s.each);
       }

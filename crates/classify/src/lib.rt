@@ -35,7 +35,7 @@ pub fn classify(
         (legs_in root false n tags.now counts.new)
         result }
 {
-    units(left, n, counts);
+    units(&left[..n], &mut counts[..n]);
     let paired = both_walks(tags, left, n, european);
     let class = class_of(tags, counts, n, paired.class);
     let shape = shape_of(tags, counts, n);

@@ -99,8 +99,6 @@ pub record Placed (ls : List Leg) (places sizes roots : List ℕ) : Type 0 where
   pub each_root : take (length ls) roots ≡ map (λ l. l.root) ls
 
 -- tags and contracts in a sequence of places: the contracts are taken from where the leg came
-pub record Arranged (n : ℕ) (places sizes tags left : List ℕ) : Type 0 where
-  pub each_tag : take n tags ≡ map (λ p. p / 16) (take n places)
-  pub each_left : take n left ≡ map (λ p. get_or sizes (p % 16) 0) (take n places)
-  pub full_tags : length tags ≡ 16
-  pub full_left : length left ≡ 16
+pub record Arranged (places sizes tags left : List ℕ) : Type 0 where
+  pub each_tag : tags ≡ map (λ p. p / 16) places
+  pub each_left : left ≡ map (λ p. get_or sizes (p % 16) 0) places

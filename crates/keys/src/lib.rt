@@ -2,13 +2,12 @@
 // first walk's sequence; groups, sides and series are read off the tags.
 #![tactic(auto)]
 
-ghost use Rattle.std.specs.Prelude.{◌≡◌, false, ◌+◌, ◌*◌, ◌≤◌, ◌<◌, length};
+ghost use Rattle.std.specs.Prelude.{◌≡◌, false, ◌+◌, ◌*◌, ◌<◌, length};
 ghost use Rattle.rules.specs.Pairing.{digit};
 ghost use Rattle.rules.specs.OpenContracts.{sign};
 ghost use Rattle.rules.specs.Valid.{InRange};
 ghost use Rattle.keys.specs.Tags.{key_of, is_bought, group_of, leg_at, second_tag, place_of, key_in, Arranged};
 
-use amounts::pick;
 use rules::{Leg, Mills, Series};
 
 // The tag of the first walk.
@@ -16,11 +15,12 @@ pub fn tag_of(s: Series, bought: bool) -> u64
     requires { InRange s }
     ensures { (result ≡ key_of false s * 2 + digit bought) × (result < 40000000000000000) }
 {
-    let side = pick(bought, 1, 0);
+    let side = u64::from(bought);
     if s.call {
-        return ((100000000 + s.expiry) * 100000000 + (99999999 - s.strike.0)) * 2 + side;
+        ((100000000 + s.expiry) * 100000000 + (99999999 - s.strike.0)) * 2 + side
+    } else {
+        (s.expiry * 100000000 + s.strike.0) * 2 + side
     }
-    (s.expiry * 100000000 + s.strike.0) * 2 + side
 }
 
 // Whether the leg of a tag is bought.
@@ -34,7 +34,7 @@ pub fn is_bought(tag: u64) -> bool
 pub fn sign_of(tag: u64) -> i64
     ensures { result ≡ sign (is_bought tag) }
 {
-    2 * (tag % 2) as i64 - 1
+    if is_bought(tag) { 1 } else { -1 }
 }
 
 // What the legs that are walked together have in common.
@@ -57,9 +57,10 @@ pub fn second_tag(tag: u64) -> u64
     let expiry = key / 100000000 % 100000000;
     let low = key % 100000000;
     if kind == 1 {
-        return ((100000000 + (99999999 - low)) * 100000000 + expiry) * 2 + side;
+        ((100000000 + (99999999 - low)) * 100000000 + expiry) * 2 + side
+    } else {
+        (low * 100000000 + expiry) * 2 + side
     }
-    (low * 100000000 + expiry) * 2 + side
 }
 
 // The leg of a tag of the first walk. No check asks for its root.
@@ -73,12 +74,12 @@ pub fn leg_at(tag: u64, size: u64) -> Leg
     Leg {
         root: 0,
         series: Series {
-            call: call,
+            call,
             expiry: key / 100000000 % 100000000,
-            strike: Mills(pick(call, 99999999 - low, low)),
+            strike: Mills(if call { 99999999 - low } else { low }),
         },
         bought: is_bought(tag),
-        size: size,
+        size,
     }
 }
 
@@ -99,16 +100,12 @@ pub fn key_in(place: u64) -> u64
 
 // Tags and contracts in the sequence of sorted places: each place becomes its tag, and the contracts of its leg are put
 // beside it.
-pub fn arrange(places: &mut [u64; 16], sizes: &[u64; 16], n: usize, left: &mut [u64; 16])
-    requires { (n ≤ 16) × (length places.old ≡ 16) × (length sizes.now ≡ 16) × (length left.old ≡ 16) }
-    ensures { Arranged n places.old sizes.now places.new left.new }
+pub fn arrange(places: &mut [u64], sizes: &[u64; 16], left: &mut [u64])
+    requires { length left.old ≡ length places.old }
+    ensures { Arranged places.old sizes.now places.new left.new }
 {
-    let mut i = 0;
-    while i < n {
-        let place = places[i];
-        let at = (place % 16) as usize;
-        places[i] = place / 16;
-        left[i] = sizes[at];
-        i += 1;
+    for (i, place) in places.iter_mut().enumerate() {
+        left[i] = sizes[(*place % 16) as usize];
+        *place /= 16;
     }
 }

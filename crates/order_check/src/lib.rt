@@ -34,7 +34,7 @@ pub fn check_order(o: Order, settings: &[u64], market: &[u64]) -> OrderAnswer
         return refused(number);
     }
     let mut left = [0u64; 16];
-    arrange(&mut places, &sizes, n, &mut left);
+    arrange(&mut places[..n], &sizes, &mut left[..n]);
     judge(st, m, t, &places, &mut left, n)
 }
 

@@ -42,9 +42,9 @@ fn second_walk(tags: &[u64; 16], left: &[u64; 16], n: usize) -> PairTally
 {
     let mut places = [0u64; 16];
     second_places(tags, n, &mut places);
-    sort(&mut places, n);
+    sort(&mut places[..n]);
     let mut rest = [0u64; 16];
-    arrange(&mut places, left, n, &mut rest);
+    arrange(&mut places[..n], left, &mut rest[..n]);
     let pairs = walk(&places, &mut rest, n);
     loners(pairs, &places, &rest, n)
 }

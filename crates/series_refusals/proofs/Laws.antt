@@ -2,10 +2,12 @@
 use mathlib.Core.Path.{◌≡◌, refl, sym, ap, ap₂, ◌∙◌}
 use mathlib.Core.List.{List, [], ◌∷◌, map, zip_with}
 use mathlib.Core.Bool.{Bool, true, false, ◌&&◌, ◌||◌}
-use Prim.Native.Nat.{ℕ, suc, ◌+◌, ◌-◌, ◌≤◌, ◌<◌}
+use Prim.Native.Nat.{ℕ, suc, ◌+◌, ◌≤◌, ◌<◌}
 use native.Mathlib.Omega.{arith}
-use lib.ListN.{length, take, drop, get_or, length-drop}
-use lib.Seq.{length-take-le}
+use native.Mathlib.Numerals.{add-one}
+use lib.ListN.{length, drop, get_or, drop_of_length-le}
+use lib.Seq.{drop-cons, take_all}
+use Rattle.std.specs.List.{list_any, zip}
 use lib.Dec.{eqb}
 use borrow.Author.Tests.{eqb-true, eqb-false, eq-eqb, ne_eqb}
 use Rattle.rules.specs.declared.Leg.{Leg}
@@ -15,14 +17,12 @@ use Rattle.rules.specs.Valid.{InRange}
 use Rattle.rules.proofs.Tests.{and_true, and_both, and_of, same_test, same_eq}
 use Rattle.laws.proofs.Sorting.{some_pair_perm, map_perm}
 use Rattle.laws.proofs.Sequence.{eqb_turn}
-use Rattle.loops.proofs.Finding.{step, any_turn, any_end, pair_turn, pair_end}
 use Rattle.sorting.specs.Keys.{sort_keys, with_places, EachTwo}
 use Rattle.sorting.proofs.Laws.{sort_same, sort_ascends}
 use Rattle.keys.specs.Tags.{key_of, tag_of, place_of, key_in, Placed}
 use Rattle.arranging.proofs.Back.{key_tells, tag_half}
 use Rattle.arranging.proofs.Valid.{root_of, one_root, equal_series}
-use Rattle.arranging.proofs.Zip.{zip_length, zip_at, zip_take}
-use Rattle.series_refusals.specs.Twice.{is_one_key, some_next, no_key, with_root, keys_of, is_same_key, stands_again}
+use Rattle.series_refusals.specs.Twice.{is_one_key, some_next, with_root, keys_of, is_same_key}
 
 -- ---- neighbours
 
@@ -49,35 +49,12 @@ some_next_lem (p ∷ q ∷ ps) h = go (is_one_key p q) _ (λ e. apart p q ps h.0
 sorted_next : (ps : List ℕ) → some_next (sort_keys ps) ≡ some_pair eqb (map key_in ps)
 sorted_next ps = some_next_lem (sort_keys ps) (sort_ascends ps) ∙ some_pair_perm eqb eqb_turn (map_perm key_in (sort_same ps))
 
--- ---- a loop over neighbours
-
-module _ (ps : List ℕ) (n : ℕ) (few : n ≤ 16) (full : length ps ≡ 16) (i : ℕ) where
-  fits : n ≤ length ps
-  fits = omega arith
-
-  -- `r` tells whether the next two are of one key
-  pub next_turn : (r : Bool) → 1 ≤ i → i < n → r ≡ is_one_key (get_or ps (i - 1) 0) (get_or ps i 0) → r || some_next (drop (i + 1 - 1) (take n ps)) ≡ some_next (drop (i - 1) (take n ps))
-  unfolding some_next
-  next_turn r h k e =
-      let back : i + 1 - 1 ≡ i = omega arith in
-      let here : i - 1 + 1 ≡ i = omega arith in
-      rw (back, step 0 ps n fits (i - 1) (omega arith), here, step 0 ps n fits i k, e)
-
-  -- two neighbours of one key are found, and others passed over
-  pub next_found : 1 ≤ i → i < n → key_in (get_or ps (i - 1) 0) ≡ key_in (get_or ps i 0) → true ≡ some_next (drop (i - 1) (take n ps))
-  next_found h k e = next_turn true h k (sym (eq-eqb _ _ e))
-
-  pub next_passed : (j : ℕ) → j ≡ i + 1 → 1 ≤ i → i < n → (key_in (get_or ps (i - 1) 0) ≡ key_in (get_or ps i 0) → ⊥) → some_next (drop (j - 1) (take n ps)) ≡ some_next (drop (i - 1) (take n ps))
-  next_passed j a h k e = rw a (next_turn false h k (sym (ne_eqb _ _ e)))
-
-  pub next_end : n ≤ i → false ≡ some_next (drop (i - 1) (take n ps))
-  unfolding some_next
-  next_end h = short (drop (i - 1) (take n ps)) (omega (arith, length-drop (i - 1) (take n ps), length-take-le n ps fits))
-    where
-      short : (xs : List ℕ) → length xs ≤ 1 → false ≡ some_next xs
-      short [] l = refl
-      short (x ∷ []) l = refl
-      short (x ∷ y ∷ xs) l = absurd (omega arith)
+-- the places and those behind them, side by side
+pub next_beside : (ps : List ℕ) → list_any (λ p. eqb (key_in p.0) (key_in p.1)) (zip ps (drop 1 ps)) ≡ some_next ps
+unfolding some_next
+next_beside [] = refl
+next_beside (p ∷ []) = refl
+next_beside (p ∷ q ∷ ps) = ap (λ (b : Bool). is_one_key p q || b) (next_beside (q ∷ ps))
 
 -- ---- any two elements
 
@@ -94,41 +71,30 @@ same_pairs {A} k f g P e (x ∷ xs) h = ap₂ ◌||◌ (go xs h.1) (same_pairs k
 
 -- ---- keys with their roots
 
-module _ (places roots : List ℕ) (full : length places ≡ 16) (rooted : length roots ≡ 16) (n : ℕ) (few : n ≤ 16) where
-  abbrev ks : List (ℕ × ℕ)
-  ks = keys_of places roots
+pub again_beside : (k : ℕ × ℕ) (ps rs : List ℕ) → list_any (λ p. eqb k.0 (key_in p.0) && eqb k.1 p.1) (zip ps rs) ≡ any (is_same_key k) (keys_of ps rs)
+unfolding any zip_with
+again_beside k [] rs = refl
+again_beside k (p ∷ ps) [] = refl
+again_beside k (p ∷ ps) (r ∷ rs) = ap (λ (b : Bool). is_same_key k (with_root p r) || b) (again_beside k ps rs)
 
-  pub keys_fit : n ≤ length ks
-  keys_fit = omega (arith, zip_length with_root places roots (full ∙ sym rooted))
+module _ (ps rs : List ℕ) (beside : length rs ≡ length ps) where
+  -- whether two from `i` on have one key and one root
+  abbrev pub two_from : ℕ → Bool
+  two_from i = some_pair is_same_key (keys_of (drop i ps) (drop i rs))
 
-  -- the comparison of the key at `at` with the next, made in the arrays
-  pub again_turn : (at i : ℕ) → at < n → i < n → (r : Bool) (k m : ℕ) → k ≡ key_in (get_or places at 0) → m ≡ key_in (get_or places i 0) → r ≡ eqb k m && eqb (get_or roots at 0) (get_or roots i 0)
-      → r || any (is_same_key (get_or ks at no_key)) (drop (i + 1) (take n ks)) ≡ any (is_same_key (get_or ks at no_key)) (drop i (take n ks))
-  again_turn at i h l r k m e f g =
-      let there : (j : ℕ) → j < n → get_or ks j no_key ≡ with_root (get_or places j 0) (get_or roots j 0) = λ j b. zip_at with_root places roots j 0 0 no_key (omega arith) (omega arith) in
-      any_turn no_key ks n keys_fit (is_same_key (get_or ks at no_key)) false r i l (rw (there at h, there i l, g, e, f))
+  turn : (i : ℕ) → i < length ps → two_from i ≡ any (is_same_key (with_root (get_or ps i 0) (get_or rs i 0))) (keys_of (drop (i + 1) ps) (drop (i + 1) rs)) || two_from (i + 1)
+  unfolding some_pair zip_with
+  turn i h = rw (add-one, drop-cons ps i 0 h, drop-cons rs i 0 (omega arith)) refl
 
-  -- the key that stands again is found, and others are passed over
-  pub again_found : (at i : ℕ) → at < n → i < n → (k m : ℕ) → k ≡ key_in (get_or places at 0) → m ≡ key_in (get_or places i 0) → eqb k m && eqb (get_or roots at 0) (get_or roots i 0) ≡ true
-      → true ≡ any (is_same_key (get_or ks at no_key)) (drop i (take n ks))
-  again_found at i h l k m e f g = again_turn at i h l true k m e f (sym g)
+  pub two_found : (i : ℕ) → i < length ps → any (is_same_key (with_root (get_or ps i 0) (get_or rs i 0))) (keys_of (drop (i + 1) ps) (drop (i + 1) rs)) ≡ true → true ≡ two_from i
+  two_found i h e = sym (turn i h ∙ ap (λ (b : Bool). b || two_from (i + 1)) e)
 
-  pub again_passed : (at i j : ℕ) → j ≡ i + 1 → at < n → i < n → (k m : ℕ) → k ≡ key_in (get_or places at 0) → m ≡ key_in (get_or places i 0) → eqb k m && eqb (get_or roots at 0) (get_or roots i 0) ≡ false
-      → any (is_same_key (get_or ks at no_key)) (drop j (take n ks)) ≡ any (is_same_key (get_or ks at no_key)) (drop i (take n ks))
-  again_passed at i j a h l k m e f g = rw a (again_turn at i h l false k m e f (sym g))
+  pub two_passed : (i : ℕ) → i < length ps → any (is_same_key (with_root (get_or ps i 0) (get_or rs i 0))) (keys_of (drop (i + 1) ps) (drop (i + 1) rs)) ≡ false → two_from (i + 1) ≡ two_from i
+  two_passed i h e = sym (turn i h ∙ ap (λ (b : Bool). b || two_from (i + 1)) e)
 
-  pub again_none : (at i : ℕ) → n ≤ i → false ≡ any (is_same_key (get_or ks at no_key)) (drop i (take n ks))
-  again_none at i h = sym (any_end no_key ks n keys_fit (is_same_key (get_or ks at no_key)) false i h)
-
-  -- where a key stands again two are found, and others are passed over
-  pub two_found : (i : ℕ) → i < n → stands_again n i ks ≡ true → true ≡ some_pair is_same_key (drop i (take n ks))
-  two_found i h e = pair_turn no_key ks n keys_fit is_same_key false true i h (sym e)
-
-  pub two_passed : (i j : ℕ) → j ≡ i + 1 → i < n → stands_again n i ks ≡ false → some_pair is_same_key (drop j (take n ks)) ≡ some_pair is_same_key (drop i (take n ks))
-  two_passed i j a h e = rw a (pair_turn no_key ks n keys_fit is_same_key false false i h (sym e))
-
-  pub two_none : (i : ℕ) → n ≤ i → false ≡ some_pair is_same_key (drop i (take n ks))
-  two_none i h = sym (pair_end no_key ks n keys_fit is_same_key false i h)
+  pub two_none : (i : ℕ) → length ps ≤ i → false ≡ two_from i
+  unfolding some_pair zip_with
+  two_none i h = sym (ap (λ (xs : List ℕ). some_pair is_same_key (keys_of xs (drop i rs))) (drop_of_length-le ps {i = i} h))
 
 -- ---- the legs that the places say
 
@@ -171,16 +137,23 @@ key_alone a b h r q = sym (and_true _) ∙ ap (λ (c : Bool). eqb (key_of_leg a)
 
 -- ---- the answer
 
-module _ (n : ℕ) (few : n ≤ 16) (places roots sizes : List ℕ) (ls : List Leg) (placed : Placed ls places sizes roots) (number : length ls ≡ n) (ranges : All (λ l. InRange l.series) ls) where
-  pub of_several : some_pair is_same_key (take n (keys_of places roots)) ≡ some_pair is_same_series ls
+module _ (places roots sizes : List ℕ) (few : length places ≤ 16) (beside : length roots ≡ length places) (ls : List Leg) (placed : Placed ls places sizes roots) (number : length ls ≡ length places)
+    (ranges : All (λ l. InRange l.series) ls) where
+  tags : places ≡ with_places 0 (map (tag_of false) ls)
+  tags = sym (take_all (length ls) places (omega arith)) ∙ placed.each_tag
+
+  each_root : roots ≡ map (λ l. l.root) ls
+  each_root = sym (take_all (length ls) roots (omega arith)) ∙ placed.each_root
+
+  pub of_several : some_pair is_same_key (keys_of places roots) ≡ some_pair is_same_series ls
   of_several =
-      ap (some_pair is_same_key) (zip_take with_root n places roots ∙ ap₂ keys_of (rw number at placed.each_tag) (rw number at placed.each_root) ∙ rooted_keys 0 ls (omega arith))
+      ap (some_pair is_same_key) (ap₂ keys_of tags each_root ∙ rooted_keys 0 ls (omega arith))
       ∙ same_pairs rooted_key is_same_key is_same_series (λ l. InRange l.series) key_says ls ranges
 
-  pub of_one : some_pair is_other_root ls ≡ false → some_next (sort_keys (take n places)) ≡ some_pair is_same_series ls
+  pub of_one : some_pair is_other_root ls ≡ false → some_next (sort_keys places) ≡ some_pair is_same_series ls
   of_one one =
-      sorted_next (take n places)
-      ∙ ap (some_pair eqb) (ap (map key_in) (rw number at placed.each_tag) ∙ place_keys 0 ls (omega arith))
+      sorted_next places
+      ∙ ap (some_pair eqb) (ap (map key_in) tags ∙ place_keys 0 ls (omega arith))
       ∙ same_pairs key_of_leg eqb is_same_series _ (λ a b p q. key_alone a b (p.1 ∙ sym q.1) p.0 q.0) ls (both ls ranges (one_root ls one))
     where
       both : (xs : List Leg) → All (λ l. InRange l.series) xs → All (λ l. l.root ≡ root_of ls) xs → All (λ l. InRange l.series × (l.root ≡ root_of ls)) xs

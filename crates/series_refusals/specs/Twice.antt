@@ -1,8 +1,8 @@
 -- A series twice, as it is found in the legs' places.
-use Rattle.std.specs.Prelude.{◌≡◌, Bool, false, ◌&&◌, ◌||◌, ℕ, ◌+◌, length, take, drop, get_or, eqb}
+use Rattle.std.specs.Prelude.{◌≡◌, Bool, false, ◌&&◌, ◌||◌, ℕ, length, eqb}
 use mathlib.Core.List.{List, [], ◌∷◌, zip_with}
 use Rattle.rules.specs.declared.Leg.{Leg}
-use Rattle.rules.specs.Lists.{All, any, some_pair}
+use Rattle.rules.specs.Lists.{All, some_pair}
 use Rattle.rules.specs.Numbers.{is_same_series, is_other_root}
 use Rattle.rules.specs.Valid.{InRange}
 use Rattle.sorting.specs.Keys.{sort_keys}
@@ -28,20 +28,12 @@ with_root place root = (key_in place, root)
 abbrev pub keys_of : List ℕ → List ℕ → List (ℕ × ℕ)
 keys_of places roots = zip_with with_root places roots
 
-abbrev pub no_key : ℕ × ℕ
-no_key = (0, 0)
-
 abbrev pub is_same_key : ℕ × ℕ → ℕ × ℕ → Bool
 is_same_key a b = eqb a.0 b.0 && eqb a.1 b.1
 
--- the key at `at` stands again, with its root, behind it
-abbrev pub stands_again : ℕ → ℕ → List (ℕ × ℕ) → Bool
-stands_again n at ks = any (is_same_key (get_or ks at no_key)) (drop (at + 1) (take n ks))
-
 -- ---- the answer
 
--- of `n` places, whose legs are of several roots where `other` says so; `after` are the places afterwards
-pub record SortedTwice (n : ℕ) (other : Bool) (places roots after : List ℕ) (r : Bool) : Type 0 where
-  pub twice : (ls : List Leg) (sizes : List ℕ) → Placed ls places sizes roots → length ls ≡ n → All (λ l. InRange l.series) ls → other ≡ some_pair is_other_root ls → r ≡ some_pair is_same_series ls
-  pub sorted : other ≡ false → take n after ≡ sort_keys (take n places)
-  pub full : length after ≡ 16
+-- of the places of legs, which are of several roots where `other` says so; `after` are the places afterwards
+pub record SortedTwice (other : Bool) (places roots after : List ℕ) (r : Bool) : Type 0 where
+  pub twice : (ls : List Leg) (sizes : List ℕ) → Placed ls places sizes roots → length ls ≡ length places → All (λ l. InRange l.series) ls → other ≡ some_pair is_other_root ls → r ≡ some_pair is_same_series ls
+  pub sorted : other ≡ false → after ≡ sort_keys places

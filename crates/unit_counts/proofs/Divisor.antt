@@ -1,16 +1,17 @@
--- The common divisor of counts from the last to the first, that a divisor of 1 stays, and that counts of 1 or more have one.
+-- The common divisor of counts from the last to the first, and that counts of 1 or more have one.
 use mathlib.Core.Path.{◌≡◌, refl, sym, ap, ap₂, ◌∙◌}
-use mathlib.Core.List.{List, [], ◌∷◌, ◌++◌, map}
+use mathlib.Core.List.{List, [], ◌∷◌, map, reverse, reverse-cons}
 use mathlib.Core.Bool.{false}
-use Prim.Native.Nat.{ℕ, ◌+◌, ◌/◌, ◌≤◌, ◌<◌}
+use Prim.Native.Nat.{ℕ, ◌/◌, ◌≤◌, ◌<◌}
 use native.Mathlib.Nat.{pos_of_dvd_of_pos}
 use native.Mathlib.Omega.{arith}
-use lib.ListN.{length, take, drop, get_or, take-append-drop}
+use lib.ListN.{length}
+use Rattle.std.specs.List.{fold}
+use Rattle.std.proofs.lemmas.List.Sums.{fold-append}
 use Rattle.rules.specs.declared.Leg.{Leg}
 use Rattle.rules.specs.Lists.{All}
-use Rattle.rules.specs.Order.{gcd, gcd_within, common_divisor, divided, units}
+use Rattle.rules.specs.Order.{gcd, common_divisor, divided, units}
 use Rattle.laws.proofs.Divisor.{gcd_divides}
-use Rattle.loops.proofs.Finding.{step, over}
 
 -- the common divisor of some counts
 unfoldable pub divisor_of : List ℕ → ℕ
@@ -25,36 +26,15 @@ unfolding common_divisor divisor_of
 of_legs_lem [] = refl
 of_legs_lem (l ∷ ls) = ap (gcd l.size) (of_legs_lem ls)
 
--- a divisor of 1 stays
-one_stays : (a : ℕ) → gcd a 1 ≡ 1
-unfolding gcd gcd_within
-one_stays a = refl
+-- the divisor of all legs that have these counts
+pub divisor_read : (ss : List ℕ) (d : ℕ) → d ≡ divisor_of ss → (ls : List Leg) → sizes_of ls ≡ ss → d ≡ common_divisor ls
+divisor_read ss d h ls e = h ∙ sym (of_legs_lem ls ∙ ap divisor_of e)
 
-ends_at_one : (xs ys : List ℕ) → divisor_of ys ≡ 1 → divisor_of (xs ++ ys) ≡ 1
+-- taken from the last count to the first
+pub divisor_folded : (ss : List ℕ) → fold (λ d s. gcd s d) 0 (reverse ss) ≡ divisor_of ss
 unfolding divisor_of
-ends_at_one [] ys h = h
-ends_at_one (x ∷ xs) ys h = ap (gcd x) (ends_at_one xs ys h) ∙ one_stays x
-
-pub one_of_all : (xs : List ℕ) (i : ℕ) → divisor_of (drop i xs) ≡ 1 → divisor_of xs ≡ 1
-one_of_all xs i h = ap divisor_of (sym (take-append-drop i xs)) ∙ ends_at_one (take i xs) (drop i xs) h
-
--- from the last of the first `n` counts to the first
-module _ (sizes : List ℕ) (n : ℕ) (fits : n ≤ length sizes) where
-  pub divisor_start : 0 ≡ divisor_of (drop n (take n sizes))
-  unfolding divisor_of
-  divisor_start = rw (over 0 sizes n fits n (omega arith))
-
-  pub divisor_turn : (i d e : ℕ) → i < n → d ≡ divisor_of (drop (i + 1) (take n sizes)) → e ≡ gcd (get_or sizes i 0) d → e ≡ divisor_of (drop i (take n sizes))
-  unfolding divisor_of
-  divisor_turn i d e h k m = rw (step 0 sizes n fits i h) (m ∙ ap (gcd (get_or sizes i 0)) k)
-
-  -- the divisor of all legs that have these counts
-  pub divisor_read : (d : ℕ) → d ≡ divisor_of (take n sizes) → (ls : List Leg) → sizes_of ls ≡ take n sizes → d ≡ common_divisor ls
-  divisor_read d h ls e = h ∙ sym (of_legs_lem ls ∙ ap divisor_of e)
-
-  -- a divisor of 1 before the last leg looked at is that of all
-  pub one_read : (i j d e : ℕ) → j ≡ i + 1 → i < n → d ≡ divisor_of (drop j (take n sizes)) → e ≡ gcd (get_or sizes i 0) d → e ≡ 1 → (ls : List Leg) → sizes_of ls ≡ take n sizes → 1 ≡ common_divisor ls
-  one_read i j d e a h k m o = divisor_read 1 (sym (one_of_all (take n sizes) i (sym (divisor_turn i d e h (rw (← a) k) m) ∙ o)))
+divisor_folded [] = refl
+divisor_folded (s ∷ ss) = ap (fold (λ d s. gcd s d) 0) (reverse-cons s ss) ∙ fold-append (λ d s. gcd s d) 0 (reverse ss) (s ∷ []) ∙ ap (gcd s) (divisor_folded ss)
 
 -- a leg of some count
 abbrev leg_of_size : ℕ → Leg

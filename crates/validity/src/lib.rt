@@ -28,7 +28,7 @@ pub fn refusal(
 {
     let legs = read.len;
     let bought = is_bought(places[0] / 16);
-    let twice = sorted_twice(places, roots, legs, read.other);
+    let twice = sorted_twice(&mut places[..legs], &roots[..legs], read.other);
     let price = is_bad_price(t, bought, legs);
     let shares = is_bad_shares(t);
     let setting = negated(settings_hold(st));

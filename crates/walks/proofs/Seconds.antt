@@ -60,9 +60,12 @@ legs_say root (t ∷ ts) (n ∷ ns) h k =
       roots = (refl, r.roots);
     }
 
-module _ {n : ℕ} {tags left sorted seconds rest : List ℕ} (q : InSequence n tags left)
-    (order : take n sorted ≡ sort_keys (with_places 0 (map second_tag (take n tags))))
-    (arranged : Arranged n sorted left seconds rest)
+module _ {n : ℕ} {tags left sorted : List ℕ} (q : InSequence n tags left)
+    (order : sorted ≡ sort_keys (with_places 0 (map second_tag (take n tags))))
+    (seconds rest : List ℕ)
+    (arranged : Arranged sorted left (take n seconds) (take n rest))
+    (full_seconds : length seconds ≡ 16)
+    (full_rest : length rest ≡ 16)
     (root : ℕ) where
   tg : Tagged n tags
   tg = q.valid
@@ -95,7 +98,7 @@ module _ {n : ℕ} {tags left sorted seconds rest : List ℕ} (q : InSequence n 
       differ : (x y : Leg) → (tag_of false x / 2 ≡ tag_of false y / 2 → ⊥) → InRange x.series → InRange y.series → key_of true x.series ≡ key_of true y.series → ⊥
       differ x y d r q e = d (tag_half false x ∙ ap (key_of false) (key_tells true x.series y.series r q e) ∙ sym (tag_half false y))
 
-  numbers : take n sorted ≡ sort_keys (with_places 0 (map (tag_of true) ls))
+  numbers : sorted ≡ sort_keys (with_places 0 (map (tag_of true) ls))
   numbers = order ∙ ap (λ (ks : List ℕ). sort_keys (with_places 0 ks)) say.seconds
 
   counted : All (λ s. s ≤ 10000) (map (λ x. x.size) (by_expiry ls))
@@ -105,9 +108,9 @@ module _ {n : ℕ} {tags left sorted seconds rest : List ℕ} (q : InSequence n 
   pub seconds_sequence : InSequence n seconds rest
   seconds_sequence =
       record {
-        valid = arranged_tagged true ls short say.ranges keys_apart n many sorted left seconds rest numbers say.sizes arranged;
+        valid = arranged_tagged true ls short say.ranges keys_apart n many sorted left seconds rest numbers say.sizes arranged full_seconds;
         rising = arranged_rising true ls short say.ranges keys_apart n many sorted left seconds rest numbers say.sizes arranged;
-        full = arranged.full_left;
+        full = full_rest;
         counts = rw (arranged_sizes true ls short say.ranges keys_apart n many sorted left seconds rest numbers say.sizes arranged) counted;
       }
 

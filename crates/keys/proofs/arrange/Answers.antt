@@ -1,4 +1,4 @@
-use Rattle.std.proofs.Common.{◌≡◌, ℕ, ◌+◌, ◌/◌, ◌%◌, get_or, ap, ◌∙◌, arith, rules}
+use Rattle.std.proofs.Common.{◌≡◌, ℕ, ◌+◌, ◌/◌, ◌%◌, get_or, ap, ◌∙◌, arith}
 use Rattle.std.proofs.Math.Seq.{drop-set-lt}
 use Rattle.loops.proofs.Filling.{fill_turn, next_same, rest_same}
 use Rattle.keys.proofs.arrange.Goals as goal
@@ -13,7 +13,4 @@ loop-i-preserved c =
       each_tag = fill_turn 0 (λ p. p / 16) xs l.places l.i _ (omega arith) (omega arith) (ap (λ (q : ℕ). q / 16) same) v.each_tag;
       others = drop-set-lt (l.i + 1) l.places l.i _ (omega arith) ∙ rest_same 0 xs l.places l.i (omega arith) (omega arith) v.others;
       each_left = fill_turn 0 (λ p. get_or sizes (p % 16) 0) xs l.left l.i _ (omega arith) (omega arith) (ap (λ (q : ℕ). get_or sizes (q % 16) 0) same) v.each_left;
-      full_tags = search rules;
-      full_left = search rules;
-      within = omega arith;
     }
