@@ -199,18 +199,17 @@ module _ (second : Bool) (ls : List Leg) (few : length ls ≤ 16) (range : All (
         each [] h = tt
         each (x ∷ xs) h = (tag_small second x h.0, each xs h.1)
 
--- ---- the first places of an array, sorted and then arranged: `qs` is what sorting left of the first of `xs`, `ts` and `ss` are what arranging left
+-- ---- the first of an array are arranged, and put back
 
-put_back_length : (n : ℕ) (ts xs : List ℕ) → length ts ≡ length (take n xs) → length (ts ++ drop n xs) ≡ length xs
+-- as many are put back as there were
+pub put_back_length : (n : ℕ) (ts xs : List ℕ) → length ts ≡ length (take n xs) → length (ts ++ drop n xs) ≡ length xs
 put_back_length n ts xs e = omega (arith, length-append ts (drop n xs), length-append (take n xs) (drop n xs), ap length (take-append-drop n xs))
 
-pub arranged_front : (n : ℕ) (qs xs sizes ts ss ws : List ℕ) → n ≤ length xs → n ≤ length ws → length qs ≡ length (take n xs) → length ts ≡ length (take n (qs ++ drop n xs)) → length ss ≡ length (take n ws)
-    → Arranged (take n (qs ++ drop n xs)) sizes ts ss
-    → let tags = ts ++ drop n (qs ++ drop n xs) in
-      let left = ss ++ drop n ws in Arranged qs sizes (take n tags) (take n left) × (length tags ≡ length xs) × (length left ≡ length ws)
-arranged_front n qs xs sizes ts ss ws h k e f g a =
-    let long : length qs ≡ n = e ∙ length-take-le n xs h in
-    let first = take_at qs (drop n xs) n long in
-    let tags = take_at ts (drop n (qs ++ drop n xs)) n (f ∙ ap length first ∙ long) in
+-- `ts` and `ss` are what arranging left of the first of `xs` and `ws`
+pub arranged_front : (n : ℕ) (xs sizes ts ss ws : List ℕ) → n ≤ length xs → n ≤ length ws → length ts ≡ length (take n xs) → length ss ≡ length (take n ws) → Arranged (take n xs) sizes ts ss
+    → let tags = ts ++ drop n xs in
+      let left = ss ++ drop n ws in Arranged (take n xs) sizes (take n tags) (take n left) × (length tags ≡ length xs) × (length left ≡ length ws)
+arranged_front n xs sizes ts ss ws h k f g a =
+    let tags = take_at ts (drop n xs) n (f ∙ length-take-le n xs h) in
     let left = take_at ss (drop n ws) n (g ∙ length-take-le n ws k) in
-    (record { each_tag = tags ∙ rw first at a.each_tag; each_left = left ∙ rw first at a.each_left }, put_back_length n ts (qs ++ drop n xs) f ∙ put_back_length n qs xs e, put_back_length n ss ws g)
+    (record { each_tag = tags ∙ a.each_tag; each_left = left ∙ a.each_left }, put_back_length n ts xs f, put_back_length n ss ws g)

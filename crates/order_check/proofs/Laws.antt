@@ -113,12 +113,12 @@ module _ (st : Settings) (m : Market) (o : Order) (full : length o.legs ≡ 16) 
   counts : take read.len sizes ≡ map (λ x. x.size) ls
   counts = rw many at good.placed.each_size
 
-  module _ (tags left : List ℕ) (arranged : Arranged read.len after sizes tags left) where
+  module _ (tags left : List ℕ) (arranged : Arranged (take read.len after) sizes (take read.len tags) (take read.len left)) where
     pub order_tags : ValidTags read.len tags left
     order_tags = valid_tags ls valid_order.2 read.len many few after sizes tags left order counts arranged
 
     order_legs_lem : legs_in (root_of ls) false read.len tags left ≡ by_strike ls
-    order_legs_lem = valid_legs ls valid_order.2 read.len many few after sizes tags left order counts arranged
+    order_legs_lem = valid_legs ls valid_order.2 read.len many few (take read.len after) sizes tags left order counts arranged
 
     -- what is judged of the arrays, with the order's terms, is the answer
     pub order_judged : (a : OrderAnswer) → ((root : ℕ) → a ≡ judged st m o.terms (legs_in root false read.len tags left)) → a ≡ check_order st m o

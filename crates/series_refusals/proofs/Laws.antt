@@ -5,8 +5,8 @@ use mathlib.Core.Bool.{Bool, true, false, ◌&&◌, ◌||◌}
 use Prim.Native.Nat.{ℕ, suc, ◌+◌, ◌≤◌, ◌<◌}
 use native.Mathlib.Omega.{arith}
 use native.Mathlib.Numerals.{add-one}
-use lib.ListN.{length, drop, get_or, drop_of_length-le}
-use lib.Seq.{drop-cons, take_all}
+use lib.ListN.{length, take, drop, get_or, drop_of_length-le}
+use lib.Seq.{drop-cons, take_all, take-take, length-take-le}
 use Rattle.std.specs.List.{list_any, zip}
 use lib.Dec.{eqb}
 use borrow.Author.Tests.{eqb-true, eqb-false, eq-eqb, ne_eqb}
@@ -22,7 +22,7 @@ use Rattle.sorting.proofs.Laws.{sort_same, sort_ascends}
 use Rattle.keys.specs.Tags.{key_of, tag_of, place_of, key_in, Placed}
 use Rattle.arranging.proofs.Back.{key_tells, tag_half}
 use Rattle.arranging.proofs.Valid.{root_of, one_root, equal_series}
-use Rattle.series_refusals.specs.Twice.{is_one_key, some_next, with_root, keys_of, is_same_key}
+use Rattle.series_refusals.specs.Twice.{is_one_key, some_next, with_root, keys_of, is_same_key, SortedTwice}
 
 -- ---- neighbours
 
@@ -159,3 +159,11 @@ module _ (places roots sizes : List ℕ) (few : length places ≤ 16) (beside : 
       both : (xs : List Leg) → All (λ l. InRange l.series) xs → All (λ l. l.root ≡ root_of ls) xs → All (λ l. InRange l.series × (l.root ≡ root_of ls)) xs
       both [] h k = tt
       both (x ∷ xs) h k = ((h.0, k.0), both xs h.1 k.1)
+
+-- ---- the first places of an array
+
+pub twice_front : (n : ℕ) (other : Bool) (places roots after : List ℕ) (r : Bool) → n ≤ length places → SortedTwice other (take n places) (take n roots) after r
+    → (ls : List Leg) (sizes : List ℕ) → Placed ls places sizes roots → length ls ≡ n → All (λ l. InRange l.series) ls → other ≡ some_pair is_other_root ls → r ≡ some_pair is_same_series ls
+twice_front n other places roots after r fits s ls sizes p e =
+    let front : (xs : List ℕ) → take (length ls) (take n xs) ≡ take (length ls) xs = λ xs. take-take (length ls) n xs (omega arith) in
+    s.twice ls sizes (record { each_tag = front places ∙ p.each_tag; each_size = p.each_size; each_root = front roots ∙ p.each_root }) (e ∙ sym (length-take-le n places fits))

@@ -4,8 +4,8 @@ use mathlib.Core.List.{List, [], ◌∷◌, ◌++◌, map}
 use mathlib.Core.Bool.{Bool, true, false, not, ◌&&◌}
 use Prim.Native.Nat.{ℕ, ◌+◌, ◌*◌, ◌/◌, ◌%◌, ◌≤◌, ◌<◌}
 use native.Mathlib.Omega.{arith}
-use lib.ListN.{length, take, get_or, length-map}
-use lib.Seq.{slice, get_or-take, length-take-le}
+use lib.ListN.{length, take, drop, get_or, length-append, length-drop, length-map}
+use lib.Seq.{slice, get_or-take, length-take-le, take_at}
 use lib.Dec.{leb}
 use borrow.Author.Tests.{lt-leb, eq-eqb, ne_eqb, not-false}
 use Rattle.rules.specs.declared.RawLeg.{RawLeg}
@@ -32,6 +32,7 @@ use Rattle.keys.specs.Tags.{key_of, tag_of, is_bought, place_of}
 use Rattle.reading.specs.declared.Read.{Read}
 use Rattle.reading.specs.Legs.{read_refusals, IsRead}
 use Rattle.series_refusals.specs.Twice.{SortedTwice}
+use Rattle.series_refusals.proofs.Laws.{twice_front}
 use Rattle.validity.specs.Orders.{Refuses}
 
 -- ---- a leg in its limits
@@ -115,7 +116,9 @@ first_side places (x ∷ y ∷ ls) h e = absurd (omega arith)
 -- what the tests say: `twice` and `price` are those of the places
 module _ (st : Settings) (m : Market) (t : Terms) (read : Read) (places roots sorted : List ℕ) (r : ℕ) (twice price : Bool)
     (few : read.len ≤ 16)
-    (series : SortedTwice read.len read.other places roots sorted twice)
+    (whole : length places ≡ 16)
+    (long : length sorted ≡ length (take read.len places))
+    (series : SortedTwice read.other (take read.len places) (take read.len roots) sorted twice)
     (priced : (ls : List Leg) → length ls ≡ read.len → (read.len ≡ 1 → (get_or ls 0 no_leg).bought ≡ is_bought (get_or places 0 0 / 16)) → price ≡ is_bad_price t ls)
     (tests : after read.number (later twice read.other price t st m) ≡ after r [])
   where
@@ -127,7 +130,7 @@ module _ (st : Settings) (m : Market) (t : Terms) (read : Read) (places roots so
         let g = is.good h in
         let ls = legs_of (take many legs) in
         let number : length ls ≡ read.len = length-map (take many legs) leg_of ∙ length-take-le many legs (omega (arith, full, few, g.len)) ∙ sym g.len in
-        let s = series.twice ls sizes g.placed number (read_ranges many (take many legs) (sym is.number ∙ h)) g.other in
+        let s = twice_front read.len read.other places roots sorted twice (omega arith) series ls sizes g.placed number (read_ranges many (take many legs) (sym is.number ∙ h)) g.other in
         let p = priced ls number (λ e. first_side places ls (number ∙ e) g.placed.each_tag) in
         rw (← s, ← g.other, ← p)
 
@@ -150,5 +153,10 @@ module _ (st : Settings) (m : Market) (t : Terms) (read : Read) (places roots so
         let tried = later twice read.other price t st m in
         (none_apply tried refl (none_found read.number tried (tests ∙ ap (λ (n : ℕ). after n []) e)).1).1.0
 
-    pub refuses : Refuses st m t read places roots sorted r
-    refuses = record { number = number_of; sorted = λ e. series.sorted (one_root e); full = series.full }
+    pub refuses : Refuses st m t read places roots (sorted ++ drop read.len places) r
+    refuses =
+        record {
+          number = number_of;
+          sorted = λ e. take_at sorted (drop read.len places) read.len (long ∙ length-take-le read.len places (omega arith)) ∙ series.sorted (one_root e);
+          full = omega (arith, length-append sorted (drop read.len places), length-drop read.len places, length-take-le read.len places);
+        }

@@ -9,6 +9,8 @@ returns c =
     let a = c.args in
     refuses a.st a.m a.t a.read a.places.now a.roots.now _ _ _ _
     c.requires.0
+    c.requires.1
+    c.sorted_twice-twice.auto.places
     c.sorted_twice-twice.ensures
     (λ ls n side. c.is_bad_price-price.ensures ls n (λ e. side e ∙ sym c.is_bought-bought.ensures))
     (c.otherwise-n.ensures _ refl _
