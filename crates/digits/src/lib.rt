@@ -1,50 +1,29 @@
-// Decimal digits: tested in a slice, read as numbers, and written.
+// Decimal digits: tested, read as a number, and written.
 #![tactic(auto)]
 
-ghost use Rattle.std.specs.Prelude.{◌≡◌, true, [], ◌∷◌, ◌+◌, ◌≤◌, ◌<◌, length};
-ghost use Rattle.std.proofs.Math.Seq.{slice};
+ghost use Rattle.std.specs.Prelude.{◌≡◌, true, ◌+◌, ◌^◌, ◌≤◌, ◌<◌, length};
 ghost use Rattle.rules.specs.Numerals.{value, are_digits};
 
-use amounts::wide;
-
-// Whether the bytes from `at` up to `to` are digits.
-#[tactic(auto, unfolding(rules::specs::Numerals::are_digits), using(crate::proofs::Parts::part_low, crate::proofs::Parts::part_high, crate::proofs::Parts::part_pass, crate::proofs::Parts::part_end))]
-pub fn are_digits(s: &[u8], at: usize, to: usize) -> bool
-    requires { (at ≤ to) × (to ≤ length s.now) }
-    ensures { result ≡ are_digits 10 48 (slice at to s.now) }
+// Whether every byte is a digit.
+pub fn are_digits(s: &[u8]) -> bool
+    ensures { result ≡ are_digits 10 48 s.now }
 {
-    let mut i = at;
-    while i < to {
-        let b = s[i];
-        if b < 48 {
-            return false;
-        }
-        if 58 <= b {
-            return false;
-        }
-        i += 1;
+    s.iter().all(|b| b.is_ascii_digit())
+}
+
+// The number that digits say.
+#[tactic(auto, using(crate::proofs::Laws::digit_low, crate::proofs::Laws::digits_rest, crate::proofs::Laws::said_turn, crate::proofs::Laws::said_end, rules::proofs::Numerals::value_below))]
+pub fn value_of(digits: &[u8]) -> u64
+    requires digits { are_digits 10 48 digits.now ≡ true }
+    requires few { length digits.now ≤ 19 }
+    ensures value { result ≡ value 10 48 digits.now }
+    ensures below { result < 10 ^ length digits.now }
+{
+    let mut n = 0;
+    for d in digits {
+        n = n * 10 + u64::from(*d - b'0');
     }
-    true
-}
-
-// The number that two digits say. The bytes are put together as they are, and the byte of 0 is taken off once, at the
-// end, in both places: 48 * 11.
-pub fn two(b0: u8, b1: u8) -> u64
-    requires { are_digits 10 48 (b0 ∷ b1 ∷ []) ≡ true }
-    ensures { (result ≡ value 10 48 (b0 ∷ b1 ∷ [])) × (result < 100) }
-{
-    wide(b0) * 10 + wide(b1) - 528
-}
-
-// The number that eight digits say. The byte of 0 is taken off once, at the end, in all eight places: 48 * 11111111.
-// The halves do not wait for each other.
-pub fn eight(b0: u8, b1: u8, b2: u8, b3: u8, b4: u8, b5: u8, b6: u8, b7: u8) -> u64
-    requires { are_digits 10 48 (b0 ∷ b1 ∷ b2 ∷ b3 ∷ b4 ∷ b5 ∷ b6 ∷ b7 ∷ []) ≡ true }
-    ensures { (result ≡ value 10 48 (b0 ∷ b1 ∷ b2 ∷ b3 ∷ b4 ∷ b5 ∷ b6 ∷ b7 ∷ [])) × (result < 100000000) }
-{
-    let high = ((wide(b0) * 10 + wide(b1)) * 10 + wide(b2)) * 10 + wide(b3);
-    let low = ((wide(b4) * 10 + wide(b5)) * 10 + wide(b6)) * 10 + wide(b7);
-    high * 10000 + low - 533333328
+    n
 }
 
 // A number below ten as its digit.
@@ -52,5 +31,5 @@ pub fn byte_of(d: u64) -> u8
     requires { d < 10 }
     ensures { result ≡ d + 48 }
 {
-    (d + 48) as u8
+    d as u8 + b'0'
 }

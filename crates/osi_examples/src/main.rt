@@ -4,6 +4,7 @@
 use rules::{Mills, SymbolParts};
 use std::io;
 use std::io::Write;
+use symbol::said;
 
 // "SPX   " and "LAMR  " as numbers, the first byte highest.
 const SPX: u64 = 91604540989472;
@@ -12,21 +13,23 @@ const LAMR: u64 = 83843353813024;
 
 fn symbol_of(root: u64, year: u64, month: u64, day: u64, right: u64, strike: u64) -> SymbolParts {
     SymbolParts {
-        root: root,
-        year: year,
-        month: month,
-        day: day,
-        right: right,
+        root,
+        year,
+        month,
+        day,
+        right,
         strike: Mills(strike),
     }
 }
 
 // Writes the parts into the lent bytes, prints the part handed back between bars and the number, then what the reader
-// says of it.
+// says of it. A refusal hands back no part.
 fn show<W: Write>(out: &mut W, parts: SymbolParts, lent: &mut [u8]) -> io::Result<()> {
-    let mut number: u64 = 99;
-    let part = writer::write(parts, lent, &mut number);
-    let back = symbol::read(part);
+    let (part, number): (&[u8], u64) = match writer::write(parts, lent) {
+        Ok(part) => (part, 0),
+        Err(e) => (&[], u64::from(e)),
+    };
+    let back = said(symbol::read(part));
     let read = back.number;
     let strike = back.parts.strike.0;
     out.write_all(b"|")?;

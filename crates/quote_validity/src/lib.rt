@@ -11,6 +11,7 @@ use choice::{either, negated};
 use limits::{market_holds, settings_hold};
 use rules::{Market, Mills, Series, Settings};
 use series::series_of;
+use symbol::said;
 
 // Root and series count only where the number is 0.
 #[derive(Clone, Copy)]
@@ -37,7 +38,7 @@ fn is_bad_quote(bid: Mills, offer: Mills) -> bool
 pub fn read_quote(symbol: &[u8], bid: Mills, offer: Mills, st: Settings, m: Market) -> QuoteRead
     ensures { IsQuoteRead st m symbol.now bid offer result }
 {
-    let read = symbol::read(symbol);
+    let read = said(symbol::read(symbol));
     let series = series_of(read.parts);
     let n = read.number;
     let n = otherwise(n, negated(settings_hold(st)), 9);

@@ -1,11 +1,11 @@
 -- What reading an order's legs says.
-use Rattle.std.specs.Prelude.{◌≡◌, List, [], ◌∷◌, Bool, not, ℕ, ◌≤◌, length, take}
+use Rattle.std.specs.Prelude.{◌≡◌, List, [], ◌∷◌, Bool, not, ℕ, ◌≤◌, take}
 use Rattle.rules.specs.declared.RawLeg.{RawLeg}
 use Rattle.rules.specs.Limits.{within}
 use Rattle.rules.specs.Lists.{any, some_pair}
 use Rattle.rules.specs.Symbol.{is_symbol}
 use Rattle.rules.specs.Order.{legs_of}
-use Rattle.rules.specs.Numbers.{first_of, is_bad_count, is_other_root}
+use Rattle.rules.specs.Numbers.{is_bad_count, is_other_root}
 use Rattle.keys.specs.Tags.{Placed}
 use Rattle.reading.specs.declared.Read.{Read}
 
@@ -16,13 +16,6 @@ read_refusals n rs = (not (within 1 16 n), 3) ∷ (any (λ r. not (is_symbol r.s
 -- the first `many` legs, where none of these applies
 pub record GoodRead (legs : List RawLeg) (many : ℕ) (places sizes roots : List ℕ) (r : Read) : Type 0 where
   pub len : r.len ≡ many
+  pub few : r.len ≤ 16
   pub placed : Placed (legs_of (take many legs)) places sizes roots
   pub other : r.other ≡ some_pair is_other_root (legs_of (take many legs))
-
-pub record IsRead (legs : List RawLeg) (many : ℕ) (places sizes roots : List ℕ) (r : Read) : Type 0 where
-  pub number : r.number ≡ first_of (read_refusals many (take many legs))
-  pub few : r.len ≤ 16
-  pub good : r.number ≡ 0 → GoodRead legs many places sizes roots r
-  pub full_places : length places ≡ 16
-  pub full_sizes : length sizes ≡ 16
-  pub full_roots : length roots ≡ 16

@@ -1,11 +1,13 @@
 // The legs of an order record as arrays of numbers, and the refusals that reading finds.
 #![tactic(auto)]
 
-ghost use Rattle.std.specs.Prelude.{◌≡◌, length};
-ghost use Rattle.reading.specs.Legs.{IsRead};
+ghost use Rattle.std.specs.Prelude.{◌≡◌, take, IfOk};
+ghost use Rattle.rules.specs.Numbers.{first_of};
+ghost use Rattle.answers.specs.Answers.{refusal_number, number_of};
+ghost use Rattle.reading.specs.Legs.{read_refusals, GoodRead};
 
-use amounts::{pick, within};
-use choice::{either, negated};
+use amounts::within;
+use answers::{Refusal, fail_if};
 use keys::place_of;
 use leg_tag::tag_at;
 use root_number::root_of;
@@ -14,60 +16,39 @@ use rules::RawLeg;
 // What reading an order's legs says beside the arrays.
 #[derive(Clone, Copy)]
 pub struct Read {
-    // The first of refusals 3, 4 and 5 that applies, or 0.
-    pub number: u64,
     // A root is not the first leg's.
     pub other: bool,
     pub len: usize,
 }
 
-fn read_of(number: u64, other: bool, len: usize) -> Read
-    ensures { result ≡ record { number = number; other = other; len = len } }
-{
-    Read {
-        number: number,
-        other: other,
-        len: len,
-    }
-}
-
-// 2^48, a number that no six bytes say: before the first leg no root is known.
-const NO_ROOT: u64 = 281474976710656;
-
 // Each symbol is read once, and a root that is the first leg's is not tested again. A bad count does not end the loop,
 // since a symbol that stands behind it may be outside the layout, which is the lower number.
+#[tactic(auto, unfolding(rules::specs::Numbers::first_of), using(crate::proofs::Reading::none_read, crate::proofs::Reading::next_read, crate::proofs::Reading::bad_symbol, crate::proofs::Reading::all_read))]
 pub fn read_legs(
-    legs: [RawLeg; 16],
+    legs: &[RawLeg; 16],
     n: usize,
     places: &mut [u64; 16],
     sizes: &mut [u64; 16],
     roots: &mut [u64; 16],
-) -> Read
-    requires { (length places.old ≡ 16) × (length sizes.old ≡ 16) × (length roots.old ≡ 16) }
-    ensures { IsRead legs n places.new sizes.new roots.new result }
+) -> Result<Read, Refusal>
+    ensures number { number_of refusal_number result ≡ first_of (read_refusals n (take n legs.now)) }
+    ensures good { IfOk result (GoodRead legs.now n places.new sizes.new roots.new) }
 {
-    if negated(within(1, 16, n as u64)) {
-        return read_of(3, false, 0);
-    }
-    let mut first = NO_ROOT;
-    let mut number = 0;
+    fail_if(!within(1, 16, n as u64), Refusal::BadLegCount)?;
+    let some = &legs[..n];
+    let mut known = None;
     let mut other = false;
-    let mut i = 0;
-    while i < n {
-        let raw = legs[i];
-        let s = raw.symbol;
-        let root = root_of(s[0], s[1], s[2], s[3], s[4], s[5]);
-        let tag = tag_at(first, root, &s, raw.bought);
-        if tag == 0 {
-            return read_of(4, false, 0);
-        }
+    let mut bad = false;
+    for (i, raw) in some.iter().enumerate() {
+        let root = root_of(&raw.symbol[..6]);
+        let tag = tag_at(known, root, &raw.symbol, raw.bought).ok_or(Refusal::BadSymbol)?;
         places[i] = place_of(tag, i);
         sizes[i] = raw.size;
         roots[i] = root;
-        first = roots[0];
-        number = pick(within(1, 10000, raw.size), number, 5);
-        other = either(other, negated(first == root));
-        i += 1;
+        known = Some(roots[0]);
+        other |= roots[0] != root;
+        bad |= !within(1, 10000, raw.size);
     }
-    read_of(number, other, n)
+    fail_if(bad, Refusal::BadCount)?;
+    Ok(Read { other, len: n })
 }

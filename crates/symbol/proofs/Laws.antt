@@ -9,21 +9,21 @@ use lib.ListN.{length, get_or}
 use lib.Seq.{slice}
 use lib.Dec.{eqb}
 use borrow.Author.Tests.{eqb-true}
+use Rattle.std.proofs.Common.{Ok, Err}
 use Rattle.rules.specs.declared.SymbolParts.{SymbolParts}
+use Rattle.rules.specs.declared.SymbolRead.{SymbolRead}
+use Rattle.answers.specs.declared.Refusal.{Refusal}
+use Rattle.answers.specs.Answers.{read_said}
 use Rattle.rules.specs.Limits.{within}
 use Rattle.rules.specs.Numerals.{value, are_digits}
 use Rattle.rules.specs.Symbol.{is_root, is_right, is_strike, month_lengths, leap_day, days_in, day_exists, in_limits, parts_of, is_symbol, refused_read, read_symbol}
 use Rattle.rules.proofs.Tests.{and_both, within_both}
 use Rattle.rules.proofs.Numerals.{digits_append}
 use Rattle.rules.proofs.Slices.{bytes_at, slice_bytes}
-use Rattle.rules.proofs.Symbols.{month_small, limits, read_of, read_cases}
+use Rattle.rules.proofs.Symbols.{month_small, limits, read_of, read_outside, read_cases}
 
 abbrev Digits : List ℕ → Type 0
 Digits bs = are_digits 10 48 bs ≡ true
-
--- year, month, day and strike are digits
-abbrev pub DigitsApart : List ℕ → Type 0
-DigitsApart s = Digits (bytes_at 2 6 s) × Digits (bytes_at 2 8 s) × Digits (bytes_at 2 10 s) × Digits (bytes_at 8 13 s)
 
 parted : (xs ys : List ℕ) → Digits (xs ++ ys) → Digits xs × Digits ys
 parted xs ys h = and_both _ _ (sym (digits_append 10 48 (omega arith) xs ys) ∙ h)
@@ -32,64 +32,38 @@ module _ (s : List ℕ) (long : length s ≡ 21) where
   bytes : (n at to : ℕ) → at + n ≡ to → to ≤ 21 → slice at to s ≡ bytes_at n at s
   bytes n at to e f = slice_bytes n at to s e (omega arith)
 
-  pub root_bytes : slice 0 6 s ≡ bytes_at 6 0 s
-  root_bytes = bytes 6 0 6 refl (omega arith)
+  -- the expiry's digits, two and two
+  module _ (expiry : Digits (slice 6 12 s)) where
+    pairs : Digits (bytes_at 2 6 s) × Digits (bytes_at 2 8 s) × Digits (bytes_at 2 10 s)
+    pairs =
+        let x = parted (bytes_at 2 6 s) (bytes_at 4 8 s) (rw (bytes 6 6 12 refl (omega arith)) at expiry) in
+        let y = parted (bytes_at 2 8 s) (bytes_at 2 10 s) x.1 in
+        (x.0, y.0, y.1)
 
-  -- a root tested, and valued, by its bytes
-  pub root_tested : {r b : Bool} → r ≡ is_root (bytes_at 6 0 s) → r ≡ b → is_root (slice 0 6 s) ≡ b
-  root_tested e f = ap is_root root_bytes ∙ sym e ∙ f
+    pub year_digits : Digits (slice 6 8 s)
+    year_digits = rw (bytes 2 6 8 refl (omega arith)) pairs.0
 
-  pub root_valued : {r : ℕ} → r ≡ value 256 0 (bytes_at 6 0 s) → r ≡ value 256 0 (slice 0 6 s)
-  root_valued e = e ∙ ap (value 256 0) (sym root_bytes)
+    pub month_digits : Digits (slice 8 10 s)
+    month_digits = rw (bytes 2 8 10 refl (omega arith)) pairs.1
 
-  pub digits_apart : Digits (slice 6 12 s) → Digits (slice 13 21 s) → DigitsApart s
-  digits_apart expiry strike =
-      let x = parted (bytes_at 2 6 s) (bytes_at 4 8 s) (rw (bytes 6 6 12 refl (omega arith)) at expiry) in
-      let y = parted (bytes_at 2 8 s) (bytes_at 2 10 s) x.1 in
-      (x.0, y.0, y.1, rw (bytes 8 13 21 refl (omega arith)) at strike)
+    pub day_digits : Digits (slice 10 12 s)
+    day_digits = rw (bytes 2 10 12 refl (omega arith)) pairs.2
 
-  -- the parts, each as it is read
-  pub parts_read : {root year month day right strike : ℕ} → root ≡ value 256 0 (slice 0 6 s) → year ≡ value 10 48 (bytes_at 2 6 s) → month ≡ value 10 48 (bytes_at 2 8 s) → day ≡ value 10 48 (bytes_at 2 10 s)
-      → right ≡ get_or s 12 0 → strike ≡ value 10 48 (bytes_at 8 13 s) → record { root = root; year = 2000 + year; month = month; day = day; right = right; strike = record { 0 = strike } } ≡ parts_of s
+  -- what the reader's answer says of the bytes
+  pub outside : (e : Refusal) → read_said (Err e) ≡ read_symbol s → is_symbol s ≡ false
   unfolding parts_of
-  parts_read e1 e2 e3 e4 e5 e6 = rw (bytes 2 6 8 refl (omega arith), bytes 2 8 10 refl (omega arith), bytes 2 10 12 refl (omega arith), bytes 8 13 21 refl (omega arith), e1, e2, e3, e4, e5, e6)
+  outside e h = go (is_symbol s) refl
+    where
+      go : (b : Bool) → is_symbol s ≡ b → is_symbol s ≡ false
+      go true f = let z = ap (λ (x : SymbolRead). x.parts.year) (h ∙ read_of s long f) in absurd (omega (arith, z))
+      go false f = f
 
-  -- root and digits are tested before the limits
-  pub read_tested : (b : Bool) → is_root (slice 0 6 s) && are_digits 10 48 (slice 6 12 s) && are_digits 10 48 (slice 13 21 s) ≡ b
-      → read_symbol s ≡ cond (b && in_limits (parts_of s)) (record { number = 0; parts = parts_of s }) (refused_read 4)
-  unfolding read_symbol is_symbol
-  read_tested b h = rw (long, h)
-
-  -- what the first test that fails answers
-  pub root_wrong : is_root (bytes_at 6 0 s) ≡ false → read_symbol s ≡ refused_read 4
-  root_wrong h = read_tested false (rw (root_bytes, h))
-
-  pub expiry_wrong : is_root (slice 0 6 s) ≡ true → are_digits 10 48 (slice 6 12 s) ≡ false → read_symbol s ≡ refused_read 4
-  expiry_wrong h k = read_tested false (rw (h, k))
-
-  pub strike_wrong : is_root (slice 0 6 s) ≡ true → are_digits 10 48 (slice 6 12 s) ≡ true → are_digits 10 48 (slice 13 21 s) ≡ false → read_symbol s ≡ refused_read 4
-  strike_wrong h k l = read_tested false (rw (h, k, l))
-
-  -- where all are digits, each field's are
-  pub year_digits : Digits (slice 6 12 s) → Digits (slice 13 21 s) → Digits (get_or s 6 0 ∷ get_or s 7 0 ∷ [])
-  year_digits h k = (digits_apart h k).0
-
-  pub month_digits : Digits (slice 6 12 s) → Digits (slice 13 21 s) → Digits (get_or s 8 0 ∷ get_or s 9 0 ∷ [])
-  month_digits h k = (digits_apart h k).1
-
-  pub day_digits : Digits (slice 6 12 s) → Digits (slice 13 21 s) → Digits (get_or s 10 0 ∷ get_or s 11 0 ∷ [])
-  day_digits h k = (digits_apart h k).2
-
-  -- root and digits are right: the limits decide
-  pub limits_decide : is_root (slice 0 6 s) ≡ true → are_digits 10 48 (slice 6 12 s) ≡ true → are_digits 10 48 (slice 13 21 s) ≡ true
-      → {p : SymbolParts} → p ≡ parts_of s → {b : Bool} → b ≡ in_limits p → (c : Bool) → b ≡ c
-      → read_symbol s ≡ cond c (record { number = 0; parts = p }) (refused_read 4)
-  limits_decide h k l e f c g =
-      read_tested true (rw (h, k, l)) ∙ rw (sym (f ∙ ap in_limits e) ∙ g) (rw e refl)
-
-  -- the number is 0 exactly where the bytes are in the layout
-  pub read_good : is_symbol s ≡ true → read_symbol s ≡ record { number = 0; parts = parts_of s }
-  read_good h = read_of s long h
+  pub inside : (p : SymbolParts) → read_said (Ok p) ≡ read_symbol s → (is_symbol s ≡ true) × (p ≡ parts_of s)
+  inside p h = go (is_symbol s) refl
+    where
+      go : (b : Bool) → is_symbol s ≡ b → (is_symbol s ≡ true) × (p ≡ parts_of s)
+      go true f = (f, ap (λ (x : SymbolRead). x.parts) (h ∙ read_of s long f))
+      go false f = let z : ◌≡◌ {A = ℕ} 0 4 = ap (λ (x : SymbolRead). x.number) (h ∙ read_outside s long f) in absurd (omega arith)
 
 -- the leap day is February's, which has 28 days without it
 days_small : (year month : ℕ) → days_in year month ≤ 31
@@ -122,3 +96,7 @@ parts_small s =
   where
     zeros : Small (refused_read 0).parts
     zeros = (omega arith, omega arith, omega arith, omega arith)
+
+-- what is read is small
+pub read_small : (s : List ℕ) (p : SymbolParts) → read_said (Ok p) ≡ read_symbol s → Small p
+read_small s p h = rw (ap (λ (x : SymbolRead). x.parts) h) (parts_small s)

@@ -3,6 +3,7 @@ ghost use Rattle.std.specs.Prelude.{◌≡◌};
 ghost use Rattle.rules.specs.Symbol.{read_symbol, write_symbol};
 
 use rules::{Mills, SymbolParts};
+use symbol::said;
 
 // Reads an option symbol. The number is the result; the parts are lent.
 #[unsafe(no_mangle)]
@@ -17,7 +18,7 @@ pub extern "C" fn opc_read_symbol(
 ) -> u64
     ensures { record { number = result; parts = record { root = root.new; year = year.new; month = month.new; day = day.new; right = option_type.new; strike = record { 0 = strike.new } } } ≡ read_symbol symbol.now }
 {
-    let answer = symbol::read(symbol);
+    let answer = said(symbol::read(symbol));
     *root = answer.parts.root;
     *year = answer.parts.year;
     *month = answer.parts.month;
@@ -42,17 +43,14 @@ pub extern "C" fn opc_write_symbol(
     ensures { record { number = number.new; handed = result; buffer = out.new } ≡ write_symbol (record { root = root; year = year; month = month; day = day; right = option_type; strike = record { 0 = strike } }) out.old }
 {
     let parts = SymbolParts {
-        root: root,
-        year: year,
-        month: month,
-        day: day,
+        root,
+        year,
+        month,
+        day,
         right: option_type,
         strike: Mills(strike),
     };
-    let n = writer::fill(parts, out);
-    *number = n;
-    if n == 0 {
-        return 21;
-    }
-    0
+    let written = writer::fill(parts, out);
+    *number = answers::number(written);
+    if written.is_ok() { 21 } else { 0 }
 }
