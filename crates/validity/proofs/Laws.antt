@@ -8,6 +8,7 @@ use lib.ListN.{length, take, drop, get_or, length-append, length-drop, length-ma
 use lib.Seq.{slice, get_or-take, length-take-le, take_at}
 use lib.Dec.{leb}
 use borrow.Author.Tests.{lt-leb, eq-eqb, ne_eqb, not-false}
+use Rattle.std.proofs.Common.{Result, Ok, Err, OnOk}
 use Rattle.rules.specs.declared.RawLeg.{RawLeg}
 use Rattle.rules.specs.declared.Leg.{Leg}
 use Rattle.rules.specs.declared.Terms.{Terms}
@@ -25,15 +26,15 @@ use Rattle.rules.specs.Valid.{InRange, IsValidLeg, AreValid}
 use Rattle.rules.proofs.Tests.{and_both, and_no, or_neither, within_both}
 use Rattle.rules.proofs.Symbols.{limits}
 use Rattle.rules.proofs.Numbering.{none_apply}
-use Rattle.chain.specs.Chain.{after}
-use Rattle.chain.proofs.Laws.{chained, goes_on, only_then, none_found}
-use Rattle.sorting.specs.Keys.{with_places}
+use Rattle.answers.specs.declared.Refusal.{Refusal}
+use Rattle.answers.specs.Answers.{refusal_number, number_of}
+use Rattle.sorting.specs.Keys.{sort_keys, with_places}
 use Rattle.keys.specs.Tags.{key_of, tag_of, is_bought, place_of}
 use Rattle.reading.specs.declared.Read.{Read}
-use Rattle.reading.specs.Legs.{read_refusals, IsRead}
+use Rattle.reading.specs.Legs.{read_refusals, GoodRead}
 use Rattle.series_refusals.specs.Twice.{SortedTwice}
 use Rattle.series_refusals.proofs.Laws.{twice_front}
-use Rattle.validity.specs.Orders.{Refuses}
+use Rattle.validity.specs.Orders.{later, Refuses}
 
 -- ---- a leg in its limits
 
@@ -96,10 +97,6 @@ not_refused st m t n rs h = go (none_apply (refusals st m t n rs) refl h)
 
 -- ---- the number
 
--- refusals 6 to 10, with 33
-abbrev pub later : Bool → Bool → Bool → Terms → Settings → Market → List (Bool × ℕ)
-later twice other price t st m = (twice, 6) ∷ (other, 7) ∷ (price, 8) ∷ (is_bad_shares t, 33) ∷ (not (settings_hold st), 9) ∷ (not (market_holds m), 10) ∷ []
-
 -- the side that a place says
 side_of_lem : (k : ℕ) (b : Bool) (place : ℕ) → place ≡ place_of (k * 2 + digit b) 0 → b ≡ is_bought (place / 16)
 side_of_lem k true place e = sym (eq-eqb (place / 16 % 2) 1 (omega (arith, e)))
@@ -113,50 +110,53 @@ first_side places (x ∷ []) h e =
     side_of_lem (key_of false x.series) x.bought (get_or places 0 0) (sym (get_or-take 1 places 0 0 (omega arith)) ∙ ap (λ (ps : List ℕ). get_or ps 0 0) e)
 first_side places (x ∷ y ∷ ls) h e = absurd (omega arith)
 
+-- a list of which no test applies, before another
+none_before : (es fs : List (Bool × ℕ)) → All (λ e. e.0 ≡ false) es → first_of (es ++ fs) ≡ first_of fs
+unfolding first_of
+none_before [] fs h = refl
+none_before (e ∷ es) fs h = rw h.0 (none_before es fs h.1)
+
 -- what the tests say: `twice` and `price` are those of the places
-module _ (st : Settings) (m : Market) (t : Terms) (read : Read) (places roots sorted : List ℕ) (r : ℕ) (twice price : Bool)
+module _ (st : Settings) (m : Market) (t : Terms) (read : Read) (places roots sorted : List ℕ) (twice price : Bool)
     (few : read.len ≤ 16)
     (whole : length places ≡ 16)
     (long : length sorted ≡ length (take read.len places))
     (series : SortedTwice read.other (take read.len places) (take read.len roots) sorted twice)
     (priced : (ls : List Leg) → length ls ≡ read.len → (read.len ≡ 1 → (get_or ls 0 no_leg).bought ≡ is_bought (get_or places 0 0 / 16)) → price ≡ is_bad_price t ls)
-    (tests : after read.number (later twice read.other price t st m) ≡ after r [])
   where
     -- they are the definition's, of an order that reading does not refuse
-    same_tests : (legs : List RawLeg) (many : ℕ) (sizes : List ℕ) → length legs ≡ 16 → IsRead legs many places sizes roots read → read.number ≡ 0
+    same_tests : (legs : List RawLeg) (many : ℕ) (sizes : List ℕ) → length legs ≡ 16 → first_of (read_refusals many (take many legs)) ≡ 0 → GoodRead legs many places sizes roots read
         → later (some_pair is_same_series (legs_of (take many legs))) (some_pair is_other_root (legs_of (take many legs))) (is_bad_price t (legs_of (take many legs))) t st m ≡ later twice read.other price t st m
     unfolding legs_of
-    same_tests legs many sizes full is h =
-        let g = is.good h in
+    same_tests legs many sizes full none g =
         let ls = legs_of (take many legs) in
         let number : length ls ≡ read.len = length-map (take many legs) leg_of ∙ length-take-le many legs (omega (arith, full, few, g.len)) ∙ sym g.len in
-        let s = twice_front read.len read.other places roots sorted twice (omega arith) series ls sizes g.placed number (read_ranges many (take many legs) (sym is.number ∙ h)) g.other in
+        let s = twice_front read.len read.other places roots sorted twice (omega arith) series ls sizes g.placed number (read_ranges many (take many legs) none) g.other in
         let p = priced ls number (λ e. first_side places ls (number ∙ e) g.placed.each_tag) in
         rw (← s, ← g.other, ← p)
 
-    number_of : (legs : List RawLeg) (many : ℕ) (sizes : List ℕ) → length legs ≡ 16 → IsRead legs many places sizes roots read → r ≡ refusal st m t many (take many legs)
-    unfolding refusal
-    number_of legs many sizes full is =
-        let ls = legs_of (take many legs) in
-        let first = read_refusals many (take many legs) in
-        let others = later (some_pair is_same_series ls) (some_pair is_other_root ls) (is_bad_price t ls) t st m in
-        chained r (first ++ others)
-        (goes_on first others (tt, (tt, (tt, tt)))
-        ∙ ap (λ (n : ℕ). after n others) (sym is.number)
-        ∙ only_then read.number others (later twice read.other price t st m) (same_tests legs many sizes full is)
-        ∙ tests)
+    module _ (r : Result (Unit {0}) Refusal) (tests : number_of refusal_number r ≡ first_of (later twice read.other price t st m)) where
+      numbered : (legs : List RawLeg) (many : ℕ) (sizes : List ℕ) → length legs ≡ 16 → first_of (read_refusals many (take many legs)) ≡ 0 → GoodRead legs many places sizes roots read
+          → number_of refusal_number r ≡ refusal st m t many (take many legs)
+      unfolding refusal all
+      numbered legs many sizes full none g =
+          let first = read_refusals many (take many legs) in
+          tests ∙ ap first_of (sym (same_tests legs many sizes full none g)) ∙ sym (none_before first _ (none_apply first refl none))
 
-    -- roots do not differ where nothing is refused
-    one_root : r ≡ 0 → read.other ≡ false
-    unfolding all
-    one_root e =
-        let tried = later twice read.other price t st m in
-        (none_apply tried refl (none_found read.number tried (tests ∙ ap (λ (n : ℕ). after n []) e)).1).1.0
+      -- roots do not differ where nothing is refused
+      in_sequence : OnOk r (take read.len (sorted ++ drop read.len places) ≡ sort_keys (take read.len places))
+      unfolding all
+      in_sequence = go r tests
+        where
+          go : (r : Result (Unit {0}) Refusal) → number_of refusal_number r ≡ first_of (later twice read.other price t st m) → OnOk r (take read.len (sorted ++ drop read.len places) ≡ sort_keys (take read.len places))
+          go (Ok u) e =
+              take_at sorted (drop read.len places) read.len (long ∙ length-take-le read.len places (omega arith)) ∙ series.sorted (none_apply (later twice read.other price t st m) refl (sym e)).1.0
+          go (Err x) e = tt
 
-    pub refuses : Refuses st m t read places roots (sorted ++ drop read.len places) r
-    refuses =
-        record {
-          number = number_of;
-          sorted = λ e. take_at sorted (drop read.len places) read.len (long ∙ length-take-le read.len places (omega arith)) ∙ series.sorted (one_root e);
-          full = omega (arith, length-append sorted (drop read.len places), length-drop read.len places, length-take-le read.len places);
-        }
+      pub refuses : Refuses st m t read places roots (sorted ++ drop read.len places) r
+      refuses =
+          record {
+            number = numbered;
+            sorted = in_sequence;
+            full = omega (arith, length-append sorted (drop read.len places), length-drop read.len places, length-take-le read.len places);
+          }

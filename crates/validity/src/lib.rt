@@ -1,17 +1,38 @@
-// The refusals of an order record: the first number that applies. Reading finds the first three.
+// The refusals of an order record whose legs are read: the first that applies.
 #![tactic(auto)]
 
-ghost use Rattle.std.specs.Prelude.{◌≡◌, ◌≤◌, length};
-ghost use Rattle.validity.specs.Orders.{Refuses};
+ghost use Rattle.std.specs.Prelude.{◌≡◌, ◌≤◌};
+ghost use Rattle.rules.specs.Numbers.{first_of};
+ghost use Rattle.answers.specs.Answers.{refusal_number, number_of};
+ghost use Rattle.validity.specs.Orders.{later, Refuses};
 
-use chain::otherwise;
-use choice::negated;
+use answers::{Refusal, fail_if};
 use keys::is_bought;
 use limits::{market_holds, settings_hold};
 use reading::Read;
 use refusals::{is_bad_price, is_bad_shares};
 use rules::{Market, Settings, Terms};
 use series_refusals::sorted_twice;
+
+// The first test that applies of those behind the legs' own.
+#[tactic(auto, unfolding(rules::specs::Numbers::first_of))]
+fn later(
+    twice: bool,
+    other: bool,
+    price: bool,
+    t: Terms,
+    st: Settings,
+    m: Market,
+) -> Result<(), Refusal>
+    ensures { number_of refusal_number result ≡ first_of (later twice other price t st m) }
+{
+    fail_if(twice, Refusal::SeriesTwice)?;
+    fail_if(other, Refusal::RootsDiffer)?;
+    fail_if(price, Refusal::BadPrice)?;
+    fail_if(is_bad_shares(t), Refusal::BadShares)?;
+    fail_if(!settings_hold(st), Refusal::BadSetting)?;
+    fail_if(!market_holds(m), Refusal::BadMarket)
+}
 
 // Sorts the places of an order that is not refused. A simple order has one place, which says its side; of a complex one
 // no side is asked.
@@ -22,20 +43,13 @@ pub fn refusal(
     roots: &[u64; 16],
     st: Settings,
     m: Market,
-) -> u64
-    requires { (read.len ≤ 16) × (length places.old ≡ 16) × (length roots.now ≡ 16) }
+) -> Result<(), Refusal>
+    requires { read.len ≤ 16 }
     ensures { Refuses st m t read places.old roots.now places.new result }
 {
-    let legs = read.len;
     let bought = is_bought(places[0] / 16);
-    let twice = sorted_twice(&mut places[..legs], &roots[..legs], read.other);
-    let price = is_bad_price(t, bought, legs);
-    let shares = is_bad_shares(t);
-    let setting = negated(settings_hold(st));
-    let n = otherwise(read.number, twice, 6);
-    let n = otherwise(n, read.other, 7);
-    let n = otherwise(n, price, 8);
-    let n = otherwise(n, shares, 33);
-    let n = otherwise(n, setting, 9);
-    otherwise(n, negated(market_holds(m)), 10)
+    let len = read.len;
+    let twice = sorted_twice(&mut places[..len], &roots[..len], read.other);
+    let price = is_bad_price(t, bought, len);
+    later(twice, read.other, price, t, st, m)
 }
