@@ -1,22 +1,24 @@
 -- The field at a place of a message: what it is, where it stands, and what comes behind it.
 use mathlib.Core.Path.{◌≡◌, refl, sym, ap, ◌∙◌}
-use mathlib.Core.Bool.{Bool, true, false, not, ◌&&◌}
-use mathlib.Core.List.{List, [], ◌∷◌, ◌++◌}
+use mathlib.Core.Bool.{Bool, true, false, cond, not, ◌&&◌}
+use mathlib.Core.List.{List, [], ◌∷◌}
 use Prim.Native.Nat.{ℕ, zero, suc, ◌+◌, ◌-◌, ◌≤◌, ◌<◌, suc-le-suc}
 use native.Mathlib.Omega.{arith}
 use native.Mathlib.Nat.{one-le-pow, le-mul_of_pos_right}
 use lib.Dec.{eqb}
-use lib.ListN.{length, get_or, take, drop}
-use lib.Seq.{length-take-le, take-add, drop_at, slice}
+use lib.ListN.{length, get_or, take, drop, length-drop}
+use lib.Seq.{length-take-le, take-add, take_all, drop_at, slice}
 use borrow.Author.Tests.{eqb-true, eqb-false}
 use Rattle.rules.specs.Limits.{within}
 use Rattle.rules.specs.Numerals.{value}
 use Rattle.rules.specs.Symbol.{is_digit}
 use Rattle.rules.specs.Fix.{leading_digits, is_field, tag_of, value_of, fields_of}
 use Rattle.rules.proofs.Tests.{and_both, within_both, not_eq}
-use Rattle.field_laws.proofs.Fields.{Fields, none, some, fields_are, first_is, ends_at, rest_at, part_at}
+use Rattle.field_laws.proofs.Fields.{first_is, ends_at, rest_at, part_at}
 use Rattle.fields.specs.declared.Field.{Field}
-use Rattle.fields.specs.Fields.{no_field, placed_at, first_at, field_at, value_in, Inside}
+use Rattle.fields.specs.Fields.{placed_at, first_at, field_at, all_at, fields_at, value_in, Inside}
+use Rattle.std.specs.Prelude.{Some, None}
+use Rattle.rules.specs.Lists.{All}
 
 -- the part of a message between two places, as code lends it
 pub lent : (a e : ℕ) (m : List ℕ) → a ≤ e → e ≤ length m → take (e - a) (drop a m) ≡ slice a e m
@@ -25,9 +27,9 @@ lent a e m h k =
     let front = drop_at (take a m) (take (e - a) (drop a m)) a (length-take-le a m (omega arith)) in
     sym (ap (λ (n : ℕ). drop a (take n m)) s ∙ ap (drop a) (take-add a (e - a) m) ∙ front)
 
--- the part that is lent for a field is its value
-pub lent_value : (m : List ℕ) (f : Field) → Inside (length m) f → take (f.end - f.start) (drop f.start m) ≡ value_in m f
-lent_value m f i = lent f.start f.end m i.0 i.1
+-- the bytes from a place on, as code lends them
+pub behind : (v : List ℕ) (k : ℕ) → take (length v - k) (drop k v) ≡ drop k v
+behind v k = take_all (length v - k) (drop k v) (omega (arith, length-drop k v))
 
 -- what a field is, part by part
 pub record IsField (f : List ℕ) : Type 0 where
@@ -67,55 +69,14 @@ tag_not_zero (b ∷ s) h e = go (is_digit b) refl (field_parts (b ∷ s) h)
         omega (arith, p.first, le-mul_of_pos_right (b - 48) (one-le-pow (length (take (leading_digits s) s)) 10 (omega arith)))
     go false d p = omega (arith, rw d at p.some)
 
--- what stands at a place
-pub data Found (m : List ℕ) (at : ℕ) : Type 0 where
-  nothing : field_at m at ≡ no_field → Found m at
-  field : (f r : List ℕ) → drop at m ≡ f ++ (1 ∷ r) → is_field f ≡ true → field_at m at ≡ placed_at at f → Found m at
-
-pub found : (m : List ℕ) (at : ℕ) → Found m at
-unfolding field_at first_at
-found m at = go (fields_are (drop at m))
-  where
-    go : Fields (drop at m) → Found m at
-    go (none h e) = nothing (rw e)
-    go (some f r h d e) = cases (is_field f) refl
-      where
-        cases : (b : Bool) → is_field f ≡ b → Found m at
-        cases true t = field f r d t (rw (e, t))
-        cases false t = nothing (rw (e, t))
-
--- its value is a part of the message
-pub inside_at : (m : List ℕ) (at : ℕ) → Inside (length m) (field_at m at)
-inside_at m at = go (found m at)
-  where
-    go : Found m at → Inside (length m) (field_at m at)
-    go (nothing e) = rw e (omega arith)
-    go (field f r d t e) = rw e (omega (arith, equals_inside f t), omega (arith, ends_at m at f r d))
-
--- a field ends behind its place, and in the message
-pub forward : (m : List ℕ) (at : ℕ) → ((field_at m at).tag ≡ 0 → ⊥) → (at < (field_at m at).next) × ((field_at m at).next ≤ length m)
-forward m at h = go (found m at)
-  where
-    go : Found m at → (at < (field_at m at).next) × ((field_at m at).next ≤ length m)
-    go (nothing e) = absurd (h (ap (λ (f : Field). f.tag) e))
-    go (field f r d t e) = rw e (omega arith, omega (arith, ends_at m at f r d))
-
--- the tag 0 says that nothing stands there
-pub no_field_lem : (m : List ℕ) (at : ℕ) → (field_at m at).tag ≡ 0 → field_at m at ≡ no_field
-no_field_lem m at h = go (found m at)
-  where
-    go : Found m at → field_at m at ≡ no_field
-    go (nothing e) = e
-    go (field f r d t e) = absurd (tag_not_zero f t (sym (ap (λ (f : Field). f.tag) e) ∙ h))
-
 -- the first field from a place on stands at that place
-pub stands : (m : List ℕ) (at : ℕ) (f : List ℕ) (fs : List (List ℕ)) → fields_of (drop at m) ≡ f ∷ fs → is_field f ≡ true → field_at m at ≡ placed_at at f
+pub stands : (m : List ℕ) (at : ℕ) (f : List ℕ) (fs : List (List ℕ)) → fields_of (drop at m) ≡ f ∷ fs → is_field f ≡ true → field_at m at ≡ Some (placed_at at f)
 unfolding field_at first_at
 stands m at f fs e h = rw (e, h)
 
 module _ (m : List ℕ) (at : ℕ) (f : List ℕ) (fs : List (List ℕ)) (e : fields_of (drop at m) ≡ f ∷ fs) where
   -- the places of a field's value are its places in the message
-  pub value_at_lem : slice (placed_at at f).start (placed_at at f).end m ≡ value_of f
+  pub value_at_lem : value_in m (placed_at at f) ≡ value_of f
   unfolding value_of
   value_at_lem = let s = first_is (drop at m) f fs e in part_at m at f s.rest s.whole (leading_digits f + 1)
 
@@ -124,3 +85,68 @@ module _ (m : List ℕ) (at : ℕ) (f : List ℕ) (fs : List (List ℕ)) (e : fi
   behind_at =
       let s = first_is (drop at m) f fs e in
       (rw (rest_at m at f s.rest s.whole) s.others, omega (arith, ends_at m at f s.rest s.whole))
+
+  -- its value is a part of the message
+  pub inside_at : is_field f ≡ true → Inside (length m) (placed_at at f).value
+  inside_at h = omega (arith, behind_at.1, equals_inside f h)
+
+-- what stands at a place
+pub data Found (m : List ℕ) (at : ℕ) : Type 0 where
+  nothing : field_at m at ≡ None → fields_at m at ≡ [] → Found m at
+  field : (f : List ℕ) (fs : List (List ℕ)) → fields_of (drop at m) ≡ f ∷ fs → is_field f ≡ true → field_at m at ≡ Some (placed_at at f) → fields_at m at ≡ placed_at at f ∷ fields_at m (placed_at at f).next → Found m at
+
+pub found : (m : List ℕ) (at : ℕ) → Found m at
+unfolding field_at first_at fields_at all_at
+found m at = go (fields_of (drop at m)) refl
+  where
+    go : (fs : List (List ℕ)) → fields_of (drop at m) ≡ fs → Found m at
+    go [] e = nothing (rw e) (rw e)
+    go (f ∷ fs) e = one (is_field f) refl
+      where
+        one : (b : Bool) → is_field f ≡ b → Found m at
+        one true h = field f fs e h (rw (e, h)) (rw (e, h, (behind_at m at f fs e).0))
+        one false h = nothing (rw (e, h)) (rw (e, h))
+
+module _ (m : List ℕ) (at : ℕ) where
+  pub none_left : None ≡ field_at m at → fields_at m at ≡ []
+  none_left e = go (found m at)
+    where
+      go : Found m at → fields_at m at ≡ []
+      go (nothing a b) = b
+      go (field f fs k h a b) = absurd cc
+
+  module _ {f : Field} (e : Some f ≡ field_at m at) where
+    pub one_left : fields_at m at ≡ f ∷ fields_at m f.next
+    one_left = go (found m at)
+      where
+        go : Found m at → fields_at m at ≡ f ∷ fields_at m f.next
+        go (nothing a b) = absurd cc
+        go (field g fs k h a b) = let s : f ≡ placed_at at g = cc in rw s b
+
+    pub field_inside : Inside (length m) f.value
+    field_inside = go (found m at)
+      where
+        go : Found m at → Inside (length m) f.value
+        go (nothing a b) = absurd cc
+        go (field g fs k h a b) = let s : f ≡ placed_at at g = cc in rw s (inside_at m at g fs k h)
+
+    -- a field ends behind its place, and in the message
+    pub forward : (at < f.next) × (f.next ≤ length m)
+    forward = go (found m at)
+      where
+        go : Found m at → (at < f.next) × (f.next ≤ length m)
+        go (nothing a b) = absurd cc
+        go (field g fs k h a b) = let s : f ≡ placed_at at g = cc in rw s (omega arith, (behind_at m at g fs k).1)
+
+-- every value is a part of the message
+pub each_inside : (m : List ℕ) (at : ℕ) → All (λ f. Inside (length m) f.value) (fields_at m at)
+unfolding fields_at all_at
+each_inside m at = go (fields_of (drop at m)) at refl
+  where
+    go : (fs : List (List ℕ)) (at : ℕ) → fields_of (drop at m) ≡ fs → All (λ f. Inside (length m) f.value) (all_at at fs)
+    go [] at e = tt
+    go (f ∷ fs) at e = one (is_field f) refl (go fs (at + length f + 1) (behind_at m at f fs e).0)
+      where
+        one : (b : Bool) → is_field f ≡ b → All (λ f. Inside (length m) f.value) (all_at (at + length f + 1) fs) → All (λ f. Inside (length m) f.value) (cond b (placed_at at f ∷ all_at (at + length f + 1) fs) [])
+        one true h ih = (inside_at m at f fs e h, ih)
+        one false h ih = tt

@@ -1,4 +1,3 @@
-mod Runs
 mod Tags
 pub mod Laws
 mod Reading

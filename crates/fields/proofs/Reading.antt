@@ -4,19 +4,22 @@ use mathlib.Core.Bool.{Bool, true, false, cond}
 use mathlib.Core.List.{List, [], ◌∷◌, ◌++◌}
 use Prim.Native.Nat.{ℕ, zero, suc, ◌+◌, ◌≤◌, ◌<◌}
 use native.Mathlib.Omega.{arith}
-use lib.Dec.{eqb}
-use lib.ListN.{length, get_or, drop, length-drop}
+use lib.Dec.{eqb, ltb}
+use lib.ListN.{length, get_or, drop, length-drop, drop_of_length-le}
 use lib.Seq.{take-append-le, drop-drop}
-use borrow.Author.Tests.{ne_eqb}
+use borrow.Author.Tests.{ne_eqb, ltb-true, ltb-false}
 use Rattle.rules.specs.Lists.{all}
 use Rattle.rules.specs.Symbol.{is_digit}
-use Rattle.rules.specs.Fix.{leading_digits, is_field, tag_of}
+use Rattle.rules.specs.Fix.{leading_digits, is_field, tag_of, fields_of}
 use Rattle.rules.proofs.Tests.{and_both, within_both}
 use Rattle.field_laws.proofs.Fields.{in_field, Fields, none, some, fields_are, ends_at}
 use Rattle.fields.specs.declared.Tag.{Tag}
-use Rattle.fields.specs.Fields.{no_field, first_at, field_at}
-use Rattle.fields.specs.Steps.{tag_at, in_value, run}
-use Rattle.fields.proofs.Laws.{field_parts, equals_inside, tag_not_zero}
+use Rattle.fields.specs.Fields.{first_at, field_at}
+use Rattle.fields.specs.Steps.{tag_in}
+use Rattle.fields.proofs.Laws.{field_parts, equals_inside}
+use Rattle.fields.proofs.Tags.{Tagged, tagged, no_tag_lem}
+use Rattle.std.specs.Prelude.{Some, None, position}
+use Rattle.std.specs.List.{prefix_len}
 
 -- what the byte 1 behind a field, and all behind that, leave as it is
 module _ (r : List ℕ) where
@@ -49,92 +52,103 @@ module _ (f r : List ℕ) where
   unfolding tag_of
   tag_cut = rw (digits_cut r f, take-append-le (leading_digits f) f (1 ∷ r) (digits_inside f))
 
+-- the bytes before the first byte 1
+abbrev run : List ℕ → ℕ
+run s = prefix_len in_field s
+
 -- no byte 1 is among the digits of a tag and its =
-run_behind : (s : List ℕ) → get_or s (leading_digits s) 0 ≡ 61 → run in_value s ≡ leading_digits s + 1 + run in_value (drop (leading_digits s + 1) s)
-unfolding leading_digits run
+run_behind : (s : List ℕ) → get_or s (leading_digits s) 0 ≡ 61 → run s ≡ leading_digits s + 1 + run (drop (leading_digits s + 1) s)
+unfolding leading_digits
 run_behind [] h = absurd (omega arith)
 run_behind (b ∷ s) h = go (is_digit b) refl (run_behind s)
   where
-    go : (d : Bool) → is_digit b ≡ d → (get_or s (leading_digits s) 0 ≡ 61 → run in_value s ≡ leading_digits s + 1 + run in_value (drop (leading_digits s + 1) s))
-        → run in_value (b ∷ s) ≡ leading_digits (b ∷ s) + 1 + run in_value (drop (leading_digits (b ∷ s) + 1) (b ∷ s))
+    go : (d : Bool) → is_digit b ≡ d → (get_or s (leading_digits s) 0 ≡ 61 → run s ≡ leading_digits s + 1 + run (drop (leading_digits s + 1) s))
+        → run (b ∷ s) ≡ leading_digits (b ∷ s) + 1 + run (drop (leading_digits (b ∷ s) + 1) (b ∷ s))
     go true d ih =
         let k : suc (leading_digits s) + 1 ≡ suc (leading_digits s + 1) = omega arith in
         rw (ne_eqb b 1 (λ x. omega (arith, within_both 48 57 b d)), d, k) (omega (arith, ih (rw d at h)))
     go false d ih = let e : b ≡ 61 = rw d at h in rw (ne_eqb b 1 (λ x. omega arith), d) (omega arith)
 
-run_none : (s : List ℕ) → all in_field s ≡ true → run in_value s ≡ length s
-unfolding all run
+run_none : (s : List ℕ) → all in_field s ≡ true → run s ≡ length s
+unfolding all
 run_none [] h = refl
-run_none (b ∷ s) h = let k = and_both (in_field b) _ h in rw k.0 (ap suc (run_none s k.1))
+run_none (b ∷ s) h = let k = and_both (in_field b) _ h in rw k.0 (omega (arith, run_none s k.1))
 
-run_some : (f r : List ℕ) → all in_field f ≡ true → run in_value (f ++ (1 ∷ r)) ≡ length f
-unfolding all run
+run_some : (f r : List ℕ) → all in_field f ≡ true → run (f ++ (1 ∷ r)) ≡ length f
+unfolding all
 run_some [] r h = refl
-run_some (b ∷ f) r h = let k = and_both (in_field b) _ h in rw k.0 (ap suc (run_some f r k.1))
+run_some (b ∷ f) r h = let k = and_both (in_field b) _ h in rw k.0 (omega (arith, run_some f r k.1))
 
--- a tag that stands at a place
-pub record Tagged (m : List ℕ) (at : ℕ) (t : Tag) : Type 0 where
-  pub stands : is_field (drop at m) ≡ true
-  pub number : t.number ≡ tag_of (drop at m)
-  pub end : t.end ≡ at + leading_digits (drop at m)
+-- the first byte 1, where there is one
+first_one : (s : List ℕ) {n : ℕ} → Some n ≡ position (λ b. eqb b 1) s → (n ≡ run s) × (n < length s)
+first_one s {n} e = go (ltb (run s) (length s)) refl e
+  where
+    go : (b : Bool) → ltb (run s) (length s) ≡ b → Some n ≡ cond b (Some (run s)) None → (n ≡ run s) × (n < length s)
+    go true h e = let k : n ≡ run s = cc in (k, omega (arith, ltb-true (run s) (length s) h))
+    go false h e = absurd cc
+
+no_one : (s : List ℕ) → None ≡ position (λ b. eqb b 1) s → length s ≤ run s
+no_one s e = go (ltb (run s) (length s)) refl e
+  where
+    go : (b : Bool) → ltb (run s) (length s) ≡ b → None ≡ cond b (Some (run s)) None → length s ≤ run s
+    go true h e = absurd cc
+    go false h e = omega (arith, ltb-false (run s) (length s) h)
 
 module _ (m : List ℕ) (at : ℕ) where
-  not_field : is_field (drop at m) ≡ false → no_field ≡ field_at m at
+  pub past_end : length m < at → None ≡ field_at m at
+  unfolding field_at first_at fields_of
+  past_end h = let k : length m ≤ at = omega arith in rw (drop_of_length-le m {i = at} k)
+
+  pub no_tag : None ≡ tag_in (drop at m) → None ≡ field_at m at
   unfolding field_at first_at
-  not_field x = go (fields_are (drop at m))
+  no_tag n = go (fields_are (drop at m))
     where
-      go : Fields (drop at m) → no_field ≡ field_at m at
+      x : is_field (drop at m) ≡ false
+      x = no_tag_lem (drop at m) n
+
+      go : Fields (drop at m) → None ≡ field_at m at
       go (none h e) = rw e
       go (some f r h d e) = rw (e, sym (field_cut f r) ∙ ap is_field (sym d) ∙ x)
 
-  module _ (t : Tag) (e : t ≡ tag_at m at) where
-    pub no_tag_lem : t.number ≡ 0 → no_field ≡ field_at m at
-    unfolding tag_at
-    no_tag_lem z = go (is_field (drop at m)) refl
-      where
-        go : (b : Bool) → is_field (drop at m) ≡ b → no_field ≡ field_at m at
-        go true x = absurd (tag_not_zero (drop at m) x (sym (ap (λ (y : Tag). y.number) (rw x at e)) ∙ z))
-        go false x = not_field x
+module _ (m : List ℕ) (at : ℕ) {t : Tag} (e : Some t ≡ tag_in (drop at m)) where
+  g : Tagged (drop at m) t
+  g = tagged (drop at m) e
 
-    pub tagged : (t.number ≡ 0 → ⊥) → Tagged m at t
-    unfolding tag_at
-    tagged z = go (is_field (drop at m)) refl
-      where
-        go : (b : Bool) → is_field (drop at m) ≡ b → Tagged m at t
-        go true x = let y = rw x at e in record { stands = x; number = ap (λ (u : Tag). u.number) y; end = ap (λ (u : Tag). u.end) y }
-        go false x = absurd (z (ap (λ (u : Tag). u.number) (rw x at e)))
+  pub start_inside : at + t.digits + 1 ≤ length m
+  start_inside = omega (arith, g.digits, equals_inside (drop at m) g.stands, length-drop at m)
 
-module _ {m : List ℕ} {at : ℕ} {t : Tag} (g : Tagged m at t) where
-  pub start_inside : t.end + 1 ≤ length m
-  start_inside = omega (arith, g.end, equals_inside (drop at m) g.stands, length-drop at m)
+  abbrev start : ℕ
+  start = at + t.digits + 1
 
-  -- `end` is where the value ends, or the message
-  module _ {end : ℕ} (v : end ≡ t.end + 1 + run in_value (drop (t.end + 1) m)) where
-    from_place : end ≡ at + run in_value (drop at m)
-    from_place =
-        let s = drop at m in
-        let k : t.end + 1 ≡ at + (leading_digits s + 1) = omega (arith, g.end) in
-        let d : drop (t.end + 1) m ≡ drop (leading_digits s + 1) s = rw (k, drop-drop (leading_digits s + 1) at m) in
-        omega (arith, g.end, ap (run in_value) d, run_behind s (field_parts s g.stands).equals)
+  from_place : start + run (drop start m) ≡ at + run (drop at m)
+  from_place =
+      let s = drop at m in
+      let k : start ≡ at + (leading_digits s + 1) = omega (arith, g.digits) in
+      let d : drop start m ≡ drop (leading_digits s + 1) s = rw (k, drop-drop (leading_digits s + 1) at m) in
+      omega (arith, g.digits, ap run d, run_behind s (field_parts s g.stands).equals)
 
-    pub no_end : end ≡ length m → no_field ≡ field_at m at
-    unfolding field_at first_at
-    no_end x = go (fields_are (drop at m))
-      where
-        go : Fields (drop at m) → no_field ≡ field_at m at
-        go (none h e) = rw e
-        go (some f r h d e) = absurd (omega (arith, from_place, ap (run in_value) d, run_some f r h, ends_at m at f r d))
+  pub no_end : None ≡ position (λ b. eqb b 1) (drop start m) → None ≡ field_at m at
+  unfolding field_at first_at
+  no_end x = go (fields_are (drop at m))
+    where
+      go : Fields (drop at m) → None ≡ field_at m at
+      go (none h y) = rw y
+      go (some f r h d y) = absurd (omega (arith, from_place, no_one (drop start m) x, length-drop start m, start_inside, ap run d, run_some f r h, ends_at m at f r d))
 
-    pub whole : (end ≡ length m → ⊥) → record { tag = t.number; start = t.end + 1; end = end; next = end + 1 } ≡ field_at m at
-    unfolding field_at first_at
-    whole x = go (fields_are (drop at m))
-      where
-        go : Fields (drop at m) → record { tag = t.number; start = t.end + 1; end = end; next = end + 1 } ≡ field_at m at
-        go (none h e) = absurd (x (omega (arith, from_place, run_none (drop at m) h, length-drop at m, start_inside, g.end)))
-        go (some f r h d e) =
-            let k : is_field f ≡ true = sym (field_cut f r) ∙ ap is_field (sym d) ∙ g.stands in
-            let n : t.number ≡ tag_of f = g.number ∙ ap tag_of d ∙ tag_cut f r in
-            let l : leading_digits (drop at m) ≡ leading_digits f = ap leading_digits d ∙ digits_cut r f in
-            let a : t.end + 1 ≡ at + (leading_digits f + 1) = omega (arith, g.end) in
-            let b : end ≡ at + length f = omega (arith, from_place, ap (run in_value) d, run_some f r h) in
-            rw (e, k, n, a, b)
+  -- `n` bytes stand before the byte 1
+  pub whole : {n : ℕ} → Some n ≡ position (λ b. eqb b 1) (drop start m) → Some (record { tag = t.number; value = record { start = start; end = start + n }; next = start + n + 1 }) ≡ field_at m at
+  unfolding field_at first_at
+  whole {n} x = go (fields_are (drop at m))
+    where
+      one : (n ≡ run (drop start m)) × (n < length (drop start m))
+      one = first_one (drop start m) x
+
+      go : Fields (drop at m) → Some (record { tag = t.number; value = record { start = start; end = start + n }; next = start + n + 1 }) ≡ field_at m at
+      go (none h y) = absurd (omega (arith, from_place, one.0, one.1, run_none (drop at m) h, length-drop at m, length-drop start m, start_inside))
+      go (some f r h d y) =
+          let k : is_field f ≡ true = sym (field_cut f r) ∙ ap is_field (sym d) ∙ g.stands in
+          let c : t.number ≡ tag_of f = g.number ∙ ap tag_of d ∙ tag_cut f r in
+          let l : leading_digits (drop at m) ≡ leading_digits f = ap leading_digits d ∙ digits_cut r f in
+          let a : start ≡ at + (leading_digits f + 1) = omega (arith, g.digits) in
+          let b : start + n ≡ at + length f = omega (arith, from_place, one.0, ap run d, run_some f r h) in
+          rw (y, k, c, b, a)

@@ -1,116 +1,79 @@
--- The tag at a place, as a loop reads it digit by digit.
-use mathlib.Core.Path.{◌≡◌, refl, sym, ap, ◌∙◌}
-use mathlib.Core.Bool.{Bool, true, false, cond, true≢false}
-use mathlib.Core.List.{List, [], ◌∷◌, ◌++◌}
-use Prim.Native.Nat.{ℕ, suc, ◌+◌, ◌-◌, ◌*◌, ◌^◌, ◌≤◌, ◌<◌, min}
+-- The tag that bytes begin with.
+use mathlib.Core.Path.{◌≡◌, refl, sym, ap}
+use mathlib.Core.Bool.{Bool, true, false}
+use mathlib.Core.List.{List}
+use Prim.Native.Nat.{ℕ, ◌≤◌, ◌<◌}
 use native.Mathlib.Omega.{arith}
-use native.Mathlib.Nat.{pow-suc, pow-le-pow_right}
-use native.Mathlib.Numerals.{add-one}
-use lib.Dec.{eqb, leb}
-use lib.ListN.{length, get_or, take, drop, length-append, length-drop, get_or-eq_default}
-use lib.Seq.{take-suc, get_or-drop}
-use borrow.Author.Tests.{leb-true, leb-false, le-leb, eqb-false, ne_eqb}
-use Rattle.rules.specs.Limits.{within}
-use Rattle.rules.specs.Numerals.{value}
-use Rattle.rules.specs.Symbol.{is_digit}
-use Rattle.rules.specs.Fix.{leading_digits, is_field, tag_of}
-use Rattle.rules.proofs.Tests.{and_no, within_both}
-use Rattle.fields.specs.Steps.{no_tag, tag_at}
-use Rattle.fields.proofs.Runs.{run_pass, run_stop, digits_run}
+use lib.Dec.{eqb}
+use lib.ListN.{length, get_or, take, get_or-eq_default}
+use lib.Seq.{length-take-le}
+use borrow.Author.Tests.{le-leb, lt-leb, eq-eqb, ne_eqb}
+use Rattle.std.specs.Prelude.{Option, Some, None}
+use Rattle.rules.specs.Fix.{leading_digits, is_field, tag_of, is_number}
+use Rattle.rules.proofs.Tests.{and_no}
+use Rattle.number_values.proofs.Laws.{leading_few, leading_lem, number_of_parts}
+use Rattle.fields.specs.declared.Tag.{Tag}
+use Rattle.fields.specs.Steps.{tag_in}
+use Rattle.fields.proofs.Laws.{field_parts}
 
--- one digit more behind others
-value_snoc : (ds : List ℕ) (b : ℕ) → value 10 48 (ds ++ (b ∷ [])) ≡ value 10 48 ds * 10 + (b - 48)
-unfolding value
-value_snoc [] b = omega arith
-value_snoc (d ∷ ds) b = rw (length-append ds, value_snoc ds b, add-one, pow-suc) (omega arith)
+-- ---- the test, by cases
 
-byte : (m : List ℕ) (at i : ℕ) → at ≤ i → get_or (drop at m) (i - at) 0 ≡ get_or m i 0
-byte m at i h = let e : at + (i - at) ≡ i = omega arith in rw (get_or-drop at m, e)
+module _ (s : List ℕ) (k : ℕ) (e : k ≡ leading_digits s) where
+  pub no_digit : k < 1 → false ≡ is_field s
+  unfolding is_field
+  no_digit h = rw (← e, lt-leb 1 k h)
 
--- the digits from `at` up to `i` say `n`, and further ones may stand behind them
-record Digits (m : List ℕ) (at n i : ℕ) : Type 0 where
-  from : at ≤ i
-  reach : i + leading_digits (drop i m) ≡ at + leading_digits (drop at m)
-  number : n ≡ value 10 48 (take (i - at) (drop at m))
-  below : n < 10 ^ (i - at)
+  pub ten_digits : 9 < k → false ≡ is_field s
+  unfolding is_field
+  ten_digits h = rw (← e, lt-leb k 9 h, and_no)
 
-more : {m : List ℕ} {at n i : ℕ} → Digits m at n i → i < length m → is_digit (get_or m i 0) ≡ true → Digits m at (n * 10 + get_or m i 0 - 48) (i + 1)
-unfolding value
-more {m} {at} {n} {i} r h d =
-    let from = r.from in
-    let w = within_both 48 57 (get_or m i 0) d in
-    let k : i + 1 - at ≡ suc (i - at) = omega arith in
-    let b : n * 10 + get_or m i 0 - 48 ≡ n * 10 + (get_or m i 0 - 48) = omega arith in
-    record {
-      from = omega arith;
-      reach = omega (arith, run_pass is_digit m i h d, digits_run (drop (i + 1) m), digits_run (drop i m));
-      number = rw (k, b, take-suc (drop at m) (i - at) 0 (omega (arith, length-drop at m)), byte m at i from, value_snoc) (ap (λ (x : ℕ). x * 10 + (get_or m i 0 - 48)) r.number);
-      below = rw (k, pow-suc) (omega (arith, r.below));
-    }
+  pub digit_inside : 1 ≤ k → 0 < length s
+  digit_inside h = omega (arith, leading_few s)
 
--- the same, of one digit at least, the first of them not 0
-pub record Read (m : List ℕ) (at n i : ℕ) : Type 0 where
-  digits : Digits m at n i
-  pub first : within 49 57 (get_or m at 0) ≡ true
-  pub some : at < i
+  pub not_nought : get_or s 0 0 ≡ 48 → false ≡ is_field s
+  unfolding is_field
+  not_nought h = rw (eq-eqb (get_or s 0 0) 48 h, and_no)
 
-pub starts : (m : List ℕ) (at : ℕ) → at < length m → within 49 57 (get_or m at 0) ≡ true → Read m at (get_or m at 0 - 48) (at + 1)
-unfolding value
-starts m at h first =
-    let w = within_both 49 57 (get_or m at 0) first in
-    let d : is_digit (get_or m at 0) ≡ true = rw (le-leb 48 (get_or m at 0) (omega arith), le-leb (get_or m at 0) 57 w.1) in
-    let z : at - at ≡ 0 = omega arith in
-    let e : 0 * 10 + get_or m at 0 - 48 ≡ get_or m at 0 - 48 = omega arith in
-    let none : Digits m at 0 at = record { from = omega arith; reach = refl; number = rw z; below = rw z (omega arith) } in
-    record { digits = rw e at (more none h d); first = first; some = omega arith }
+  pub not_cut : length s ≤ k → false ≡ is_field s
+  unfolding is_field
+  not_cut h = rw (← e, get_or-eq_default s 0 h, and_no)
 
-module _ {m : List ℕ} {at n i : ℕ} (r : Read m at n i) where
-  -- what up to nine digits say is small
-  pub read_below : i ≤ at + 9 → n < 1000000000
-  read_below h = omega (arith, r.digits.below, pow-le-pow_right {n = 10} (omega arith) {i = i - at} {j = 9} (omega arith))
+  pub tag_stands : 1 ≤ k → k ≤ 9 → (get_or s 0 0 ≡ 48 → ⊥) → eqb (get_or s k 0) 61 ≡ is_field s
+  unfolding is_field
+  tag_stands l h n = rw (← e, le-leb 1 k l, le-leb k 9 h, ne_eqb (get_or s 0 0) 48 n)
 
-  pub turn : i < length m → is_digit (get_or m i 0) ≡ true → Read m at (n * 10 + get_or m i 0 - 48) (i + 1)
-  turn h d = record { digits = more r.digits h d; first = r.first; some = omega (arith, r.some) }
+  -- a tag's digits are a number
+  pub tag_inside : true ≡ is_field s → k ≤ length s
+  tag_inside h = omega (arith, leading_few s)
 
-  -- a byte that is no digit ends a tag if it is =
-  pub stops : i < length m → i ≤ at + 9 → is_digit (get_or m i 0) ≡ false → cond (eqb (get_or m i 0) 61) (record { number = n; end = i }) no_tag ≡ tag_at m at
-  unfolding tag_at tag_of is_field
-  stops h nine d =
-      let some = r.some in
-      let l : leading_digits (drop at m) ≡ i - at = omega (arith, r.digits.reach, run_stop is_digit m i h d, digits_run (drop i m)) in
-      let e : at + (i - at) ≡ i = omega arith in
-      let z : at + 0 ≡ at = omega arith in
-      let w : eqb (get_or m at 0) 48 ≡ false = ne_eqb (get_or m at 0) 48 (λ x. omega (arith, within_both 49 57 (get_or m at 0) r.first)) in
-      rw (l, byte m at i (omega arith), get_or-drop at m 0, z, w, le-leb 1 (i - at) (omega arith), le-leb (i - at) 9 (omega arith), e, ← r.digits.number)
+  pub tag_number : true ≡ is_field s → is_number (take k s) ≡ true
+  tag_number h =
+      let p = field_parts s (sym h) in
+      let l : length (take k s) ≡ k = length-take-le k s (omega (arith, leading_few s)) in
+      number_of_parts (record { some = omega (arith, p.some); few = omega (arith, p.nine); digits = rw e (leading_lem s) })
 
-  -- ten digits are no tag, and digits up to the message's end are none
-  pub none_ends : i ≡ min (length m) (at + 10) → no_tag ≡ tag_at m at
-  unfolding tag_at is_field
-  none_ends e = go (leb (leading_digits (drop at m)) 9) refl
+-- the tag `t` stands at the front
+pub record Tagged (s : List ℕ) (t : Tag) : Type 0 where
+  pub stands : is_field s ≡ true
+  pub number : t.number ≡ tag_of s
+  pub digits : t.digits ≡ leading_digits s
+
+module _ (s : List ℕ) where
+  pub no_tag_lem : None ≡ tag_in s → is_field s ≡ false
+  unfolding tag_in
+  no_tag_lem e = go (is_field s) refl
     where
-      go : (b : Bool) → leb (leading_digits (drop at m)) 9 ≡ b → no_tag ≡ tag_at m at
-      go true x =
-          let d : length (drop at m) ≤ leading_digits (drop at m) = omega (arith, r.digits.reach, length-drop at m, leb-true (leading_digits (drop at m)) 9 x) in
-          rw (get_or-eq_default (drop at m) 0 d, and_no)
-      go false x = rw (x, le-leb 1 (leading_digits (drop at m)) (omega (arith, leb-false (leading_digits (drop at m)) 9 x)))
+      go : (b : Bool) → is_field s ≡ b → is_field s ≡ false
+      go true h = let z : ◌≡◌ {A = Option Tag} None (Some (record { number = tag_of s; digits = leading_digits s })) = rw h at e in absurd cc
+      go false h = h
 
--- a tag begins with a digit that is not 0
-no_first : (s : List ℕ) → within 49 57 (get_or s 0 0) ≡ false → is_field s ≡ false
-unfolding is_field leading_digits
-no_first [] h = refl
-no_first (b ∷ s) h = go (eqb b 48) (is_digit b) refl refl
-  where
-    go : (z d : Bool) → eqb b 48 ≡ z → is_digit b ≡ d → is_field (b ∷ s) ≡ false
-    go true d e f = rw (e, and_no)
-    go false true e f =
-        let w = within_both 48 57 b f in
-        let t : within 49 57 b ≡ true = rw (le-leb 49 b (omega (arith, eqb-false b 48 e)), le-leb b 57 w.1) in
-        absurd (true≢false (sym t ∙ h))
-    go false false e f = rw f
-
-pub none_first : (m : List ℕ) (at : ℕ) → within 49 57 (get_or m at 0) ≡ false → no_tag ≡ tag_at m at
-unfolding tag_at
-none_first m at h = let z : at + 0 ≡ at = omega arith in rw (no_first (drop at m) (rw (get_or-drop at m 0, z) h))
-
-pub none_past : (m : List ℕ) (at : ℕ) → length m ≤ at → no_tag ≡ tag_at m at
-none_past m at h = none_first m at (rw (get_or-eq_default m 0 h))
+  pub tagged : {t : Tag} → Some t ≡ tag_in s → Tagged s t
+  unfolding tag_in
+  tagged {t} e = go (is_field s) refl
+    where
+      go : (b : Bool) → is_field s ≡ b → Tagged s t
+      go true h =
+          let z : ◌≡◌ {A = Option Tag} (Some t) (Some (record { number = tag_of s; digits = leading_digits s })) = rw h at e in
+          let y : t ≡ record { number = tag_of s; digits = leading_digits s } = cc in
+          record { stands = h; number = ap (λ (u : Tag). u.number) y; digits = ap (λ (u : Tag). u.digits) y }
+      go false h = let z : ◌≡◌ {A = Option Tag} (Some t) None = rw h at e in absurd cc

@@ -1,30 +1,33 @@
 // Values of a message's fields that are one byte, or a number. Document 02, S-1.
 #![tactic(auto)]
 
-ghost use Rattle.std.specs.Prelude.{◌≡◌, true, [], ◌∷◌, ◌<◌};
+ghost use Rattle.std.specs.Prelude.{◌≡◌, true, [], ◌∷◌, ◌≤◌, ◌<◌, length};
 ghost use Rattle.rules.specs.Lists.{same_numbers};
-ghost use Rattle.rules.specs.Fix.{one, is_number, number_of, number_said};
+ghost use Rattle.rules.specs.Fix.{one, leading_digits, is_number, number_of, number_said};
 
-use amounts::wide;
-use choice::both;
 use digits::are_digits;
 
 // Whether the value is this byte alone.
-#[tactic(auto, using(crate::proofs::Laws::one_byte, rules::proofs::Slices::other_length))]
+#[tactic(auto, using(crate::proofs::Laws::same_bytes))]
 pub fn is_byte(v: &[u8], b: u8) -> bool
     ensures { result ≡ same_numbers v.now (b ∷ []) }
 {
-    if v.len() != 1 {
-        return false;
-    }
-    v[0] == b
+    v == [b].as_slice()
 }
 
 // Whether the value is the digit 1.
 pub fn is_one(v: &[u8]) -> bool
     ensures { result ≡ same_numbers v.now one }
 {
-    is_byte(v, 49)
+    is_byte(v, b'1')
+}
+
+// How many digits stand at the front.
+pub fn leading_digits(v: &[u8]) -> usize
+    ensures { (result ≡ leading_digits v.now) × (result ≤ length v.now) }
+{
+    let end = v.iter().position(|b| !b.is_ascii_digit());
+    end.unwrap_or(v.len())
 }
 
 // Whether the value is a number: 1 to 15 digits.
@@ -33,7 +36,7 @@ pub fn is_number(v: &[u8]) -> bool
     ensures { result ≡ is_number v.now }
 {
     let n = v.len();
-    both(both(1 <= n, n <= 15), are_digits(v, 0, n))
+    1 <= n && n <= 15 && are_digits(v, 0, n)
 }
 
 // The number that a value says.
@@ -43,10 +46,8 @@ pub fn number_of(v: &[u8]) -> u64
     ensures { (result ≡ number_of v.now) × (result < 1000000000000000) }
 {
     let mut n: u64 = 0;
-    let mut i = 0;
-    while i < v.len() {
-        n = n * 10 + wide(v[i]) - 48;
-        i += 1;
+    for &b in v {
+        n = n * 10 + u64::from(b - b'0');
     }
     n
 }

@@ -17,26 +17,7 @@ use Rattle.rules.specs.Order.{price_of}
 use Rattle.rules.specs.Fix.{is_number, leading_digits, has_minus, are_decimals, is_amount, mills_of}
 use Rattle.rules.proofs.Numerals.{value_below}
 use Rattle.rules.proofs.Tests.{and_both, and_of, within_both}
-use Rattle.number_values.proofs.Laws.{Number, number_parts, number_of_parts}
-
--- ---- the digits at the front
-
-module _ (v : List ℕ) where
-  pub digit_passed : (i : ℕ) → i < length v → 48 ≤ get_or v i 0 → get_or v i 0 ≤ 57 → i + 1 + leading_digits (drop (i + 1) v) ≡ i + leading_digits (drop i v)
-  unfolding leading_digits
-  digit_passed i h low high = rw (add-one, drop-cons v i 0 h, le-leb 48 (get_or v i 0) low, le-leb (get_or v i 0) 57 high) (omega arith)
-
-  pub low_stops : (i : ℕ) → i < length v → get_or v i 0 < 48 → i ≡ i + leading_digits (drop i v)
-  unfolding leading_digits
-  low_stops i h low = rw (drop-cons v i 0 h, lt-leb 48 (get_or v i 0) low) (omega arith)
-
-  pub high_stops : (i : ℕ) → i < length v → 48 ≤ get_or v i 0 → 57 < get_or v i 0 → i ≡ i + leading_digits (drop i v)
-  unfolding leading_digits
-  high_stops i h low high = rw (drop-cons v i 0 h, le-leb 48 (get_or v i 0) low, lt-leb (get_or v i 0) 57 high) (omega arith)
-
-  pub end_stops : (i : ℕ) → i ≡ length v → i ≡ i + leading_digits (drop i v)
-  unfolding leading_digits
-  end_stops i e = rw (e, drop-length v) (omega arith)
+use Rattle.number_values.proofs.Laws.{Number, number_parts, number_of_parts, leading_few, leading_lem}
 
 -- ---- forms, as code tests them
 
@@ -61,28 +42,6 @@ rest_of v k = take_all (length v - k) (drop k v) (omega (arith, length-drop k v)
 
 -- ---- a price by its parts
 
-pub some_minus : (v : List ℕ) → has_minus v ≡ true → 1 ≤ length v
-some_minus [] h = absurd (true≢false (sym h))
-some_minus (x ∷ xs) h = omega arith
-
-pub leading_few : (v : List ℕ) → leading_digits v ≤ length v
-unfolding leading_digits
-leading_few [] = omega arith
-leading_few (b ∷ bs) = go (is_digit b) (leading_few bs)
-  where
-    go : (d : Bool) → leading_digits bs ≤ length bs → cond d (suc (leading_digits bs)) 0 ≤ suc (length bs)
-    go true ih = omega arith
-    go false ih = omega arith
-
-leading_digits_lem : (v : List ℕ) → are_digits 10 48 (take (leading_digits v) v) ≡ true
-unfolding leading_digits are_digits
-leading_digits_lem [] = refl
-leading_digits_lem (b ∷ bs) = go (is_digit b) refl (leading_digits_lem bs)
-  where
-    go : (d : Bool) → is_digit b ≡ d → are_digits 10 48 (take (leading_digits bs) bs) ≡ true → are_digits 10 48 (take (cond d (suc (leading_digits bs)) 0) (b ∷ bs)) ≡ true
-    go true e ih = let f : leb 48 b && ltb b 58 ≡ true = rw (leb-suc-suc b 57) e in and_of f ih
-    go false e ih = refl
-
 pub record Amount (v : List ℕ) : Type 0 where
   pub whole : Number (take (leading_digits v) v)
   pub rest : are_decimals (drop (leading_digits v) v) ≡ true
@@ -94,7 +53,7 @@ amount_parts v h =
     let p = and_both _ _ h in
     let w = within_both 1 15 k p.0 in
     let l : length (take k v) ≡ k = length-take-le k v (leading_few v) in
-    record { whole = record { some = omega arith; few = omega arith; digits = leading_digits_lem v }; rest = p.1 }
+    record { whole = record { some = omega arith; few = omega arith; digits = leading_lem v }; rest = p.1 }
 
 -- the digits behind the point
 decimal_parts : (b : ℕ) (ds : List ℕ) → are_decimals (b ∷ ds) ≡ true → Number ds × (length ds ≤ 3)

@@ -3,38 +3,17 @@
 
 ghost use Rattle.std.specs.Prelude.{◌≡◌, true, ◌-◌, ◌*◌, ◌^◌, ◌≤◌, ◌<◌, length};
 ghost use Rattle.rules.specs.Order.{price_of};
-ghost use Rattle.rules.specs.Fix.{leading_digits, is_one_or_two, is_number, number_of};
-ghost use Rattle.rules.specs.Fix.{has_minus, are_decimals, is_amount, is_price, has_form, mills_of};
-ghost use Rattle.rules.specs.Fix.{price_said};
+ghost use Rattle.rules.specs.Fix.{is_one_or_two, is_number, number_of, has_minus, unsigned};
+ghost use Rattle.rules.specs.Fix.{are_decimals, is_amount, is_price, has_form, mills_of, price_said};
 
-use choice::{both, either};
 use digits::are_digits;
-use number_values::{is_byte, is_number, is_one, number_of};
+use number_values::{is_byte, is_number, is_one, leading_digits, number_of};
 use rules::{Mills, Price};
 
 fn is_one_or_two(v: &[u8]) -> bool
     ensures { result ≡ is_one_or_two v.now }
 {
-    either(is_one(v), is_byte(v, 50))
-}
-
-// How many digits stand at the front.
-#[tactic(auto, using(crate::proofs::Laws::digit_passed, crate::proofs::Laws::low_stops, crate::proofs::Laws::high_stops, crate::proofs::Laws::end_stops))]
-fn leading_digits(v: &[u8]) -> usize
-    ensures { (result ≡ leading_digits v.now) × (result ≤ length v.now) }
-{
-    let mut i = 0;
-    while i < v.len() {
-        let b = v[i];
-        if b < 48 {
-            return i;
-        }
-        if 57 < b {
-            return i;
-        }
-        i += 1;
-    }
-    i
+    is_one(v) || is_byte(v, b'2')
 }
 
 // Whether the bytes are none, or a point and one to three digits.
@@ -42,11 +21,12 @@ fn leading_digits(v: &[u8]) -> usize
 fn are_decimals(v: &[u8]) -> bool
     ensures { result ≡ are_decimals v.now }
 {
-    let n = v.len();
-    if n == 0 {
-        return true;
+    match v {
+        [] => true,
+        [point, digits @ ..] => {
+            *point == b'.' && 1 <= digits.len() && digits.len() <= 3 && are_digits(digits)
+        }
     }
-    both(both(v[0] == 46, both(2 <= n, n <= 4)), are_digits(v, 1, n))
 }
 
 // Whether the bytes are dollars without a sign: 1 to 15 digits, and perhaps decimals.
@@ -55,28 +35,25 @@ fn is_amount(v: &[u8]) -> bool
     ensures { result ≡ is_amount v.now }
 {
     let k = leading_digits(v);
-    both(both(1 <= k, k <= 15), are_decimals(&v[k..]))
+    1 <= k && k <= 15 && are_decimals(&v[k..])
 }
 
-#[tactic(auto, using(crate::proofs::Laws::no_minus))]
-fn has_minus(v: &[u8]) -> bool
-    ensures { result ≡ has_minus v.now }
+// Whether a value has a minus, and what stands behind it.
+fn signed(v: &[u8]) -> (bool, &[u8])
+    ensures { (result.0 ≡ has_minus v.now) × (result.1.now ≡ unsigned v.now) }
 {
-    if v.len() == 0 {
-        return false;
+    match v {
+        [b'-', amount @ ..] => (true, amount),
+        _ => (false, v),
     }
-    v[0] == 45
 }
 
 // Whether the value is a price: dollars, with a minus or none.
-#[tactic(auto, unfolding(rules::specs::Fix::is_price), using(crate::proofs::Laws::rest_of, crate::proofs::Laws::some_minus))]
+#[tactic(auto, unfolding(rules::specs::Fix::is_price))]
 fn is_price(v: &[u8]) -> bool
     ensures { result ≡ is_price v.now }
 {
-    if has_minus(v) {
-        return is_amount(&v[1..]);
-    }
-    is_amount(v)
+    is_amount(signed(v).1)
 }
 
 // Whether a value has the form of its tag. Most tags are further ones, which have none.
@@ -99,13 +76,11 @@ fn decimal_mills(v: &[u8]) -> u64
     ensures { (result ≡ number_of v.now * 10 ^ (3 - length v.now)) × (result < 1000) }
 {
     let said = number_of(v);
-    if v.len() == 1 {
-        return said * 100;
+    match v.len() {
+        1 => said * 100,
+        2 => said * 10,
+        _ => said,
     }
-    if v.len() == 2 {
-        return said * 10;
-    }
-    said
 }
 
 // The mills that dollars without a sign say.
@@ -119,26 +94,19 @@ fn mills_of(v: &[u8]) -> u64
     if k == v.len() {
         return whole;
     }
-    let first = k + 1;
-    whole + decimal_mills(&v[first..])
+    whole + decimal_mills(&v[k + 1..])
 }
 
 // The price that the value of 44 says. A minus before zero says the price 0.
-#[tactic(auto, unfolding(rules::specs::Fix::is_price, rules::specs::Fix::price_said, rules::specs::Order::price_of), using(crate::proofs::Laws::rest_of, crate::proofs::Laws::some_minus, crate::proofs::Laws::negative))]
+#[tactic(auto, unfolding(rules::specs::Fix::is_price, rules::specs::Fix::price_said, rules::specs::Order::price_of), using(crate::proofs::Laws::negative))]
 pub fn price_said(v: &[u8]) -> Price
     requires { is_price v.now ≡ true }
     ensures { result ≡ price_of (price_said v.now) }
 {
-    if has_minus(v) {
-        let size = mills_of(&v[1..]);
-        return Price {
-            received: 0 < size,
-            size: Mills(size),
-        };
-    }
-    let size = mills_of(v);
+    let (minus, amount) = signed(v);
+    let size = mills_of(amount);
     Price {
-        received: false,
+        received: minus && 0 < size,
         size: Mills(size),
     }
 }
