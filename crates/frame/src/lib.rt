@@ -6,16 +6,12 @@ ghost use Rattle.rules.specs.Lists.{same_numbers};
 ghost use Rattle.fields.specs.Fields.{Inside, value_in};
 ghost use Rattle.frame.specs.Frame.{head_from, head_of, tail_step};
 
-use choice::{both, either};
-use field_reader::field_at;
-use fields::Field;
-use number_values::{is_number, number_said};
+use fields::{Field, Span, next_field};
+use number_values::{is_number, number_of};
 
 // What the first three fields say: 8, 9 and 35.
 #[derive(Clone, Copy)]
 pub struct Head {
-    // They are the frame's.
-    pub right: bool,
     // The length that field 9 says.
     pub said: u64,
     // The place behind field 9, from where the length counts.
@@ -24,76 +20,59 @@ pub struct Head {
     pub body: usize,
 }
 
-// Where field 10 stands.
+// Where field 10 stands, and the places of its value.
 #[derive(Clone, Copy)]
-pub struct Tail {
-    // Field 10 was read.
-    pub ended: bool,
-    // A field stood where none may: behind field 10, or 8, 9 or 35 in the body.
-    pub stray: bool,
-    // The place of field 10, and those of its value.
+pub struct Closing {
     pub at: usize,
-    pub start: usize,
-    pub end: usize,
+    pub value: Span,
 }
 
-// Whether a value is the text.
-#[tactic(auto, using(crate::proofs::Laws::text_differs, crate::proofs::Laws::text_turn, crate::proofs::Laws::text_end, rules::proofs::Slices::other_length))]
-fn is_text(v: &[u8], text: &[u8]) -> bool
-    ensures { result ≡ same_numbers v.now text.now }
-{
-    let n = v.len();
-    if n != text.len() {
-        return false;
-    }
-    let mut i = 0;
-    while i < n {
-        if v[i] != text[i] {
-            return false;
-        }
-        i += 1;
-    }
-    true
+// What the fields behind field 35 say of the frame.
+#[derive(Clone, Copy)]
+pub struct Tail {
+    // Field 10, where it was read.
+    pub closing: Option<Closing>,
+    // A field stood where none may: behind field 10, or 8, 9 or 35 in the body.
+    pub stray: bool,
 }
 
 // Whether a field has this tag and this text.
-#[tactic(auto, using(fields::proofs::Laws::lent_value))]
+#[tactic(auto, using(number_values::proofs::Laws::same_bytes))]
 fn says(message: &[u8], f: Field, tag: u64, text: &[u8]) -> bool
-    requires { Inside (length message.now) f }
+    requires { Inside (length message.now) f.value }
     ensures { result ≡ eqb f.tag tag && same_numbers (value_in message.now f) text.now }
 {
-    let start = f.start;
-    let end = f.end;
-    both(f.tag == tag, is_text(&message[start..end], text))
+    f.tag == tag && f.value.of(message) == text
 }
 
-// What these fields say, as the first three of a message.
-#[tactic(auto, using(fields::proofs::Laws::lent_value), unfolding(crate::specs::Frame::head_from))]
-fn head_from(message: &[u8], f8: Field, f9: Field, f35: Field) -> Head
-    requires { let n = length message.now in Inside n f8 × Inside n f9 × Inside n f35 }
+// What these fields say, as the first three of a message, where they are the frame's.
+#[tactic(auto, unfolding(crate::specs::Frame::head_from))]
+fn head_from(message: &[u8], f8: Field, f9: Field, f35: Field) -> Option<Head>
+    requires { let n = length message.now in Inside n f8.value × Inside n f9.value × Inside n f35.value }
     ensures { result ≡ head_from message.now f8 f9 f35 }
 {
-    let start = f9.start;
-    let end = f9.end;
+    let length = f9.value.of(message);
     let is_version = says(message, f8, 8, b"FIX.4.4");
-    let is_length = both(f9.tag == 9, is_number(&message[start..end]));
+    let is_length = f9.tag == 9 && is_number(length);
     let is_multileg = says(message, f35, 35, b"AB");
-    Head {
-        right: both(is_version, both(is_length, is_multileg)),
-        said: number_said(&message[start..end]),
+    if !(is_version && is_length && is_multileg) {
+        return None;
+    }
+    Some(Head {
+        said: number_of(length),
         counted: f9.next,
         body: f35.next,
-    }
+    })
 }
 
 // The first three fields of a message.
-#[tactic(auto, using(crate::proofs::Laws::inside), unfolding(crate::specs::Frame::head_of))]
-pub fn head_of(message: &[u8]) -> Head
+#[tactic(auto, using(fields::proofs::Laws::field_inside), unfolding(crate::specs::Frame::head_of))]
+pub fn head_of(message: &[u8]) -> Option<Head>
     ensures { result ≡ head_of message.now }
 {
-    let f8 = field_at(message, 0);
-    let f9 = field_at(message, f8.next);
-    let f35 = field_at(message, f9.next);
+    let f8 = next_field(message, 0)?;
+    let f9 = next_field(message, f8.next)?;
+    let f35 = next_field(message, f9.next)?;
     head_from(message, f8, f9, f35)
 }
 
@@ -102,29 +81,18 @@ pub fn head_of(message: &[u8]) -> Head
 pub fn tail_step(t: Tail, at: usize, f: Field) -> Tail
     ensures { result ≡ tail_step t at f }
 {
-    if t.ended {
-        return Tail {
-            ended: true,
-            stray: true,
-            at: t.at,
-            start: t.start,
-            end: t.end,
-        };
+    if t.closing.is_some() {
+        return Tail { stray: true, ..t };
     }
     if f.tag == 10 {
+        let closing = Closing { at, value: f.value };
         return Tail {
-            ended: true,
-            stray: t.stray,
-            at,
-            start: f.start,
-            end: f.end,
+            closing: Some(closing),
+            ..t
         };
     }
     Tail {
-        ended: false,
-        stray: either(t.stray, either(f.tag == 8, either(f.tag == 9, f.tag == 35))),
-        at: t.at,
-        start: t.start,
-        end: t.end,
+        stray: t.stray || f.tag == 8 || f.tag == 9 || f.tag == 35,
+        ..t
     }
 }

@@ -19,24 +19,26 @@ either_tag t low high = go (eqb t 623) refl
     go false e = let n = eqb-false t 623 e in inr (omega arith)
 
 module _ (q : Sequence) (legs : ℕ) where
-  pub kind_outside : record { kind = true; price = q.price; legs = q.legs; left = 0; wrong = q.wrong || q.kind } ≡ outside q 40 legs
-  unfolding outside
-  kind_outside = simp (or-true, or_false, and_true, and_no)
+  -- outside the groups no field of theirs is left
+  module _ (none : q.left ≡ 0) where
+    pub kind_outside : record { kind = true; price = q.price; legs = q.legs; left = q.left; wrong = q.wrong || q.kind } ≡ outside q 40 legs
+    unfolding outside
+    kind_outside = simp (none, or-true, or_false, and_true, and_no)
 
-  pub price_outside : record { kind = q.kind; price = true; legs = q.legs; left = 0; wrong = q.wrong || q.price } ≡ outside q 44 legs
-  unfolding outside
-  price_outside = simp (or-true, or_false, and_true, and_no)
+    pub price_outside : record { kind = q.kind; price = true; legs = q.legs; left = q.left; wrong = q.wrong || q.price } ≡ outside q 44 legs
+    unfolding outside
+    price_outside = simp (none, or-true, or_false, and_true, and_no)
+
+    -- a tag of a group is out of sequence
+    pub group_outside : (t : ℕ) → (t ≡ 600) ⊎ ((t ≡ 623) ⊎ (t ≡ 624)) → record { kind = q.kind; price = q.price; legs = q.legs; left = q.left; wrong = true } ≡ outside q t legs
+    unfolding outside
+    group_outside t (inl e) = simp (none, e, or-true, or_false, and_no)
+    group_outside t (inr (inl e)) = simp (none, e, or-true, or_false, and_no)
+    group_outside t (inr (inr e)) = simp (none, e, or-true, or_false, and_no)
 
   pub legs_outside : record { kind = q.kind; price = q.price; legs = true; left = 3 * legs; wrong = q.wrong || q.legs } ≡ outside q 555 legs
   unfolding outside
   legs_outside = simp (or-true, or_false, and_true, and_no)
-
-  -- a tag of a group is out of sequence
-  pub group_outside : (t : ℕ) → (t ≡ 600) ⊎ ((t ≡ 623) ⊎ (t ≡ 624)) → record { kind = q.kind; price = q.price; legs = q.legs; left = 0; wrong = true } ≡ outside q t legs
-  unfolding outside
-  group_outside t (inl e) = simp (e, or-true, or_false, and_no)
-  group_outside t (inr (inl e)) = simp (e, or-true, or_false, and_no)
-  group_outside t (inr (inr e)) = simp (e, or-true, or_false, and_no)
 
   -- a further tag changes nothing
   pub further_outside : (t : ℕ) → q.left ≡ 0 → (t ≡ 40 → ⊥) → (t ≡ 44 → ⊥) → (t ≡ 555 → ⊥) → (t ≡ 600 → ⊥) → (t ≡ 623 → ⊥) → (t ≡ 624 → ⊥) → q ≡ outside q t legs

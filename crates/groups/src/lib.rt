@@ -4,9 +4,6 @@
 ghost use Rattle.std.specs.Prelude.{◌≡◌, ◌<◌};
 ghost use Rattle.groups.specs.Sequence.{due_tag, outside, among, sequence_step, is_complete};
 
-use amounts::pick;
-use choice::{both, either, negated};
-
 // What was seen of the needed tags.
 #[derive(Clone, Copy)]
 pub struct Sequence {
@@ -25,8 +22,11 @@ pub struct Sequence {
 fn due_tag(left: u64) -> u64
     ensures { result ≡ due_tag left }
 {
-    let place = left % 3;
-    pick(place == 0, 600, pick(place == 2, 623, 624))
+    match left % 3 {
+        0 => 600,
+        2 => 623,
+        _ => 624,
+    }
 }
 
 // A tag among the groups.
@@ -36,11 +36,9 @@ fn among(q: Sequence, tag: u64) -> Sequence
     ensures { result ≡ among q tag }
 {
     Sequence {
-        kind: q.kind,
-        price: q.price,
-        legs: q.legs,
         left: q.left - 1,
-        wrong: either(q.wrong, tag != due_tag(q.left)),
+        wrong: q.wrong || tag != due_tag(q.left),
+        ..q
     }
 }
 
@@ -53,32 +51,21 @@ fn outside(q: Sequence, tag: u64, legs: u64) -> Sequence
     match tag {
         40 => Sequence {
             kind: true,
-            price: q.price,
-            legs: q.legs,
-            left: 0,
-            wrong: either(q.wrong, q.kind),
+            wrong: q.wrong || q.kind,
+            ..q
         },
         44 => Sequence {
-            kind: q.kind,
             price: true,
-            legs: q.legs,
-            left: 0,
-            wrong: either(q.wrong, q.price),
+            wrong: q.wrong || q.price,
+            ..q
         },
         555 => Sequence {
-            kind: q.kind,
-            price: q.price,
             legs: true,
             left: 3 * legs,
-            wrong: either(q.wrong, q.legs),
+            wrong: q.wrong || q.legs,
+            ..q
         },
-        600 | 623 | 624 => Sequence {
-            kind: q.kind,
-            price: q.price,
-            legs: q.legs,
-            left: 0,
-            wrong: true,
-        },
+        600 | 623 | 624 => Sequence { wrong: true, ..q },
         _ => q,
     }
 }
@@ -90,9 +77,10 @@ pub fn sequence_step(q: Sequence, tag: u64, legs: u64) -> Sequence
     ensures { result ≡ sequence_step q tag legs }
 {
     if q.left == 0 {
-        return outside(q, tag, legs);
+        outside(q, tag, legs)
+    } else {
+        among(q, tag)
     }
-    among(q, tag)
 }
 
 // Whether every needed tag was there once, and in its place.
@@ -100,6 +88,5 @@ pub fn sequence_step(q: Sequence, tag: u64, legs: u64) -> Sequence
 pub fn is_complete(q: Sequence) -> bool
     ensures { result ≡ is_complete q }
 {
-    let seen = both(q.kind, q.price);
-    both(seen, both(q.legs, both(q.left == 0, negated(q.wrong))))
+    q.kind && q.price && q.legs && q.left == 0 && !q.wrong
 }

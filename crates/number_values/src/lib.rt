@@ -5,7 +5,7 @@ ghost use Rattle.std.specs.Prelude.{◌≡◌, true, [], ◌∷◌, ◌≤◌, �
 ghost use Rattle.rules.specs.Lists.{same_numbers};
 ghost use Rattle.rules.specs.Fix.{one, leading_digits, is_number, number_of, number_said};
 
-use digits::are_digits;
+use digits::{are_digits, value_of};
 
 // Whether the value is this byte alone.
 #[tactic(auto, using(crate::proofs::Laws::same_bytes))]
@@ -31,25 +31,20 @@ pub fn leading_digits(v: &[u8]) -> usize
 }
 
 // Whether the value is a number: 1 to 15 digits.
-#[tactic(auto, unfolding(rules::specs::Fix::is_number), using(crate::proofs::Laws::whole_part))]
+#[tactic(auto, unfolding(rules::specs::Fix::is_number))]
 pub fn is_number(v: &[u8]) -> bool
     ensures { result ≡ is_number v.now }
 {
-    let n = v.len();
-    1 <= n && n <= 15 && are_digits(v, 0, n)
+    1 <= v.len() && v.len() <= 15 && are_digits(v)
 }
 
 // The number that a value says.
-#[tactic(auto, using(crate::proofs::Laws::number_digits, crate::proofs::Laws::read_below, crate::proofs::Laws::digit_low, crate::proofs::Laws::digits_rest, crate::proofs::Laws::said_turn, crate::proofs::Laws::said_end))]
+#[tactic(auto, using(crate::proofs::Laws::number_digits, crate::proofs::Laws::number_few, crate::proofs::Laws::number_small))]
 pub fn number_of(v: &[u8]) -> u64
     requires { is_number v.now ≡ true }
     ensures { (result ≡ number_of v.now) × (result < 1000000000000000) }
 {
-    let mut n: u64 = 0;
-    for &b in v {
-        n = n * 10 + u64::from(b - b'0');
-    }
-    n
+    value_of(v)
 }
 
 // The number of groups that the value of 555 says: none where it is no number.

@@ -19,7 +19,7 @@ use Rattle.scan_laws.proofs.Standing.{Standing, one_inside, one_value, behind_on
 pub record IsFirst (m : List ℕ) (t : ℕ) (fs : List (List ℕ)) (g : Field) : Type 0 where
   pub value : value_in m g ≡ value_at t fs
   pub behind : fields_of (drop g.next m) ≡ behind t fs
-  pub inside : Inside (length m) g
+  pub inside : Inside (length m) g.value
 
 pub first_with_lem : (m : List ℕ) (t : ℕ) (fs : List (List ℕ)) (at : ℕ) → fields_of (drop at m) ≡ fs → all is_field fs ≡ true → how_often t fs ≡ 1 → IsFirst m t fs (first_with t at fs)
 unfolding all how_often first_with value_at behind

@@ -1,16 +1,18 @@
 -- The head of a message, read by places, is its first three fields: they are there where the head is right, and where the frame is.
 use mathlib.Core.Path.{◌≡◌, refl, sym, ap, ◌∙◌}
 use mathlib.Core.List.{List, [], ◌∷◌}
-use mathlib.Core.Bool.{true, ◌&&◌, true≢false}
+use mathlib.Core.Bool.{Bool, true, cond, ◌&&◌, true≢false}
 use Prim.Native.Nat.{ℕ}
 use native.Mathlib.Omega.{arith}
 use lib.Dec.{eqb}
 use lib.ListN.{drop}
-use borrow.Author.Tests.{eqb-true}
 use Rattle.rules.specs.Lists.{all}
-use Rattle.rules.specs.Fix.{fields_of, is_field, tag_of, value_of, are_fields, is_number, number_of, says, version, multileg, number_said, all_but_last, last_of, has_frame}
+use Rattle.rules.specs.Fix.{fields_of, is_field, tag_of, value_of, are_fields, is_number, number_of, says, version, multileg, all_but_last, last_of, has_frame}
 use Rattle.rules.proofs.Tests.{and_both}
 use Rattle.fields.specs.Fields.{placed_at, field_at}
+use Rattle.std.specs.Prelude.{Option, Some, None, option_and_then}
+use Rattle.fields.specs.declared.Field.{Field}
+use Rattle.frame.specs.declared.Head.{Head}
 use Rattle.frame.specs.Frame.{head_from, head_of}
 use Rattle.scan_laws.proofs.Standing.{each_field, Standing, one_at, one_value, past, behind_one, fields_behind, standing}
 
@@ -20,20 +22,23 @@ pub record Opened (m : List ℕ) : Type 0 where
   pub field9 : Standing m (past m 0 field8)
   pub field35 : Standing m (past m _ field9)
 
+-- what a step that may fail gives to the next
+and_then_some : {A B : Type 0} {k : A → Option B} {b : B} (o : Option A) → option_and_then k o ≡ Some b → (x : A) × ((o ≡ Some x) × (k x ≡ Some b))
+and_then_some None e = absurd cc
+and_then_some (Some x) e = (x, (refl, e))
+
 module _ (m : List ℕ) where
-  pub head_opened : (head_of m).right ≡ true → Opened m
-  unfolding head_of head_from
-  head_opened r =
-      let k = and_both (eqb (field_at m 0).tag 8 && _) _ r in
-      let l = and_both (eqb (field_at m (field_at m 0).next).tag 9 && _) _ k.1 in
-      let t8 = eqb-true (field_at m 0).tag 8 (and_both _ _ k.0).0 in
-      let t9 = eqb-true (field_at m (field_at m 0).next).tag 9 (and_both _ _ l.0).0 in
-      let t35 = eqb-true (field_at m (field_at m (field_at m 0).next).next).tag 35 (and_both _ _ l.1).0 in
-      let a = standing m 0 (omega arith) (λ z. omega arith) in
-      let u9 = rw (one_at m 0 a) at t9 in
-      let b = standing m (past m 0 a) (behind_one m 0 a).1 (λ z. omega arith) in
-      let u35 = rw (one_at m 0 a, one_at m _ b) at t35 in
-      record { field8 = a; field9 = b; field35 = standing m (past m _ b) (behind_one m _ b).1 (λ z. omega arith) }
+  pub head_opened : {h : Head} → head_of m ≡ Some h → Opened m
+  unfolding head_of
+  head_opened {h} r =
+      let (f8, (p8, r8)) = and_then_some (field_at m 0) r in
+      let a = standing m 0 (omega arith) p8 in
+      let s8 : f8 ≡ placed_at 0 a.bytes = cc (one_at m 0 a) in
+      let (f9, (p9, r9)) = and_then_some (field_at m f8.next) r8 in
+      let b = standing m (past m 0 a) (behind_one m 0 a).1 (ap (λ (f : Field). field_at m f.next) (sym s8) ∙ p9) in
+      let s9 : f9 ≡ placed_at (past m 0 a) b.bytes = cc (one_at m _ b) in
+      let (f35, (p35, r35)) = and_then_some (field_at m f9.next) r9 in
+      record { field8 = a; field9 = b; field35 = standing m (past m _ b) (behind_one m _ b).1 (ap (λ (f : Field). field_at m f.next) (sym s9) ∙ p35) }
 
   pub frame_opened : are_fields m && has_frame (fields_of m) ≡ true → Opened m
   unfolding all has_frame
@@ -85,28 +90,17 @@ module _ (m : List ℕ) (o : Opened m) where
       let e = sym (behind_one m at9 o.field9).0 ∙ o.field35.are in
       o.field8.are ∙ ap (λ (fs : List (List ℕ)). f8 ∷ fs) (sym (behind_one m 0 o.field8).0 ∙ o.field9.are ∙ ap (λ (fs : List (List ℕ)). f9 ∷ fs) e)
 
-  head_is : head_of m ≡ head_from m (placed_at 0 f8) (placed_at at9 f9) (placed_at at35 f35)
-  unfolding head_of
-  head_is = rw (one_at m 0 o.field8, one_at m at9 o.field9, one_at m at35 o.field35)
+  -- what is tested of them
+  abbrev pub right : Bool
+  right = says 8 version f8 && ((eqb (tag_of f9) 9 && is_number (value_of f9)) && says 35 multileg f35)
 
-  pub right_is : (head_of m).right ≡ says 8 version f8 && ((eqb (tag_of f9) 9 && is_number (value_of f9)) && says 35 multileg f35)
-  unfolding head_from
-  right_is = rw (head_is, one_value m 0 o.field8, one_value m at9 o.field9, one_value m at35 o.field35)
+  -- what they say
+  abbrev pub told : Head
+  told = record { said = number_of (value_of f9); counted = at35; body = body }
 
-  pub said_is : (head_of m).right ≡ true → (head_of m).said ≡ number_of (value_of f9)
-  unfolding head_from number_said
-  said_is r =
-      let k = (and_both (says 8 version f8) _ (sym right_is ∙ r)).1 in
-      let l = (and_both (eqb (tag_of f9) 9 && is_number (value_of f9)) _ k).0 in
-      rw (head_is, one_value m at9 o.field9, (and_both (eqb (tag_of f9) 9) _ l).1)
-
-  pub counted_is : (head_of m).counted ≡ at35
-  unfolding head_from
-  counted_is = rw head_is
-
-  pub body_is : (head_of m).body ≡ body
-  unfolding head_from
-  body_is = rw head_is
+  pub head_is : head_of m ≡ cond right (Some told) None
+  unfolding head_of head_from
+  head_is = rw (one_at m 0 o.field8, one_at m at9 o.field9, one_at m at35 o.field35, one_value m 0 o.field8, one_value m at9 o.field9, one_value m at35 o.field35)
 
   pub body_fields : are_fields m ≡ are_fields (drop body m)
   body_fields = fields_behind m 0 o.field8 ∙ fields_behind m at9 o.field9 ∙ fields_behind m at35 o.field35

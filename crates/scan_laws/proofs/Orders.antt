@@ -29,12 +29,12 @@ module _ (m : List ℕ) (c : Closed m) where
   body_inner : body_of m ≡ inner m o
   body_inner = rw (opened_fields m o)
 
-  pub sequence_is : is_complete (seen m).sequence ≡ in_sequence (body_of m)
+  pub sequence_is : is_complete (seen m o).sequence ≡ in_sequence (body_of m)
   sequence_is =
       let r = sequence_run m (rest m o) (body m o) (begun (body m o)) (behind35 m o).0 in
       rw (ran m o c.fields, r, rest_is m c, body_inner) (in_sequence_last (inner m o) (last m o) (last_tag m c))
 
-  pub formed_is : (seen m).formed ≡ all is_formed (body_of m)
+  pub formed_is : (seen m o).formed ≡ all is_formed (body_of m)
   formed_is =
       let r = formed_run m (rest m o) (body m o) (begun (body m o)) (behind35 m o).0 in
       rw (ran m o c.fields, r, rest_is m c, body_inner) (formed_last (last m o) (last_tag m c) (inner m o))
@@ -60,22 +60,21 @@ module _ (m : List ℕ) (c : Closed m) where
       behind_is : fields_of (drop it.next m) ≡ behind t (inner m o) ++ (last m o ∷ [])
       behind_is = first.behind ∙ ap (behind t) (rest_is m c) ∙ behind_last (last m o) (last_tag m c) t (inner m o) h
 
-      put_once : {X : Type 0} (part : Places → X) (new : Field → X) (own : (p : Places) (f : Field) → part (put m p f) ≡ cond (eqb f.tag t) (new f) (part p)) → part (seen m).places ≡ new it
+      put_once : {X : Type 0} (part : Places → X) (new : Field → X) (own : (p : Places) (f : Field) → part (put m p f) ≡ cond (eqb f.tag t) (new f) (part p)) → part (seen m o).places ≡ new it
       put_once part new own = ap (λ (s : Scan). part s.places) (ran m o c.fields) ∙ once m part t new own (rest m o) (body m o) (begun (body m o)) often
 
-    pub said_is : Said m (seen m)
+    pub said_is : Said m (seen m o)
     said_is =
         let (h40, h44, h555) = needed (inner m o) right in
         let market = put_once 40 refl h40 (λ p. p.market) (λ f. same_numbers (value_in m f) one) (λ p f. refl) in
-        let start = put_once 44 refl h44 (λ p. p.start) (λ f. f.start) (λ p f. refl) in
-        let end = put_once 44 refl h44 (λ p. p.end) (λ f. f.end) (λ p f. refl) in
+        let price = put_once 44 refl h44 (λ p. p.price) (λ f. f.value) (λ p f. refl) in
         let groups = put_once 555 refl h555 (λ p. p.groups) (λ f. f.next) (λ p f. refl) in
         let legs = put_once 555 refl h555 (λ p. p.legs) (λ f. number_said (value_in m f)) (λ p f. refl) in
-        let legs_are : (seen m).places.legs ≡ leg_number (inner m o) = legs ∙ ap number_said (value_is 555 refl h555) in
+        let legs_are : (seen m o).places.legs ≡ leg_number (inner m o) = legs ∙ ap number_said (value_is 555 refl h555) in
         record {
           kind = rw (market, value_is 40 refl h40, body_inner);
-          price = rw (start, end, body_inner) (value_is 44 refl h44);
-          inside = rw (start, end) (first 44 refl h44).inside;
+          price = rw (price, body_inner) (value_is 44 refl h44);
+          inside = rw price (first 44 refl h44).inside;
           legs = rw body_inner legs_are;
           groups = rw (groups, legs_are, body_inner, behind_is 555 refl h555) (groups_last (inner m o) right (last m o));
           fields = rw body_inner (each_inner m c);

@@ -41,8 +41,7 @@ module _ (m : List ℕ) where
   put p f =
       record {
         market = cond (eqb f.tag 40) (same_numbers (value_in m f) one) p.market;
-        start = cond (eqb f.tag 44) f.start p.start;
-        end = cond (eqb f.tag 44) f.end p.end;
+        price = cond (eqb f.tag 44) f.value p.price;
         groups = cond (eqb f.tag 555) f.next p.groups;
         legs = cond (eqb f.tag 555) (number_said (value_in m f)) p.legs;
       }

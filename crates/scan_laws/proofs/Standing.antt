@@ -8,10 +8,12 @@ use lib.Dec.{eqb}
 use lib.ListN.{length, drop, length-append, length-drop}
 use borrow.Author.Tests.{ne_eqb}
 use Rattle.rules.specs.Lists.{all}
-use Rattle.rules.specs.Fix.{fields_of, bytes_of, is_field, tag_of, value_of, are_fields}
+use Rattle.rules.specs.Fix.{fields_of, bytes_of, is_field, value_of, are_fields}
 use Rattle.rules.proofs.Tests.{and_both, and_no, and_true}
-use Rattle.fields.specs.Fields.{placed_at, first_at, field_at, Inside, value_in}
-use Rattle.fields.proofs.Laws.{inside_at, tag_not_zero, stands, value_at_lem, behind_at}
+use Rattle.std.specs.Prelude.{Some, None}
+use Rattle.fields.specs.declared.Field.{Field}
+use Rattle.fields.specs.Fields.{placed_at, first_at, field_at, fields_at, Inside, value_in}
+use Rattle.fields.proofs.Laws.{inside_at, one_left, stands, value_at_lem, behind_at}
 use Rattle.scan_laws.proofs.Tests.{same_eqb}
 
 -- in a message of fields each is one
@@ -27,17 +29,14 @@ pub record Standing (m : List ℕ) (at : ℕ) : Type 0 where
   pub whole : is_field bytes ≡ true
 
 module _ (m : List ℕ) (at : ℕ) (a : Standing m at) where
-  pub one_at : field_at m at ≡ placed_at at a.bytes
+  pub one_at : field_at m at ≡ Some (placed_at at a.bytes)
   one_at = stands m at a.bytes a.others a.are a.whole
 
-  pub one_inside : Inside (length m) (placed_at at a.bytes)
-  one_inside = rw one_at at (inside_at m at)
+  pub one_inside : Inside (length m) (placed_at at a.bytes).value
+  one_inside = inside_at m at a.bytes a.others a.are a.whole
 
   pub one_value : value_in m (placed_at at a.bytes) ≡ value_of a.bytes
   one_value = value_at_lem m at a.bytes a.others a.are
-
-  pub one_tag : eqb (tag_of a.bytes) 0 ≡ false
-  one_tag = ne_eqb (tag_of a.bytes) 0 (tag_not_zero a.bytes a.whole)
 
   -- the place behind it
   abbrev pub past : ℕ
@@ -45,6 +44,10 @@ module _ (m : List ℕ) (at : ℕ) (a : Standing m at) where
 
   pub behind_one : (fields_of (drop past m) ≡ a.others) × (past ≤ length m)
   behind_one = behind_at m at a.bytes a.others a.are
+
+  -- it is the first of the fields from there on
+  pub one_first : fields_at m at ≡ placed_at at a.bytes ∷ fields_at m past
+  one_first = one_left m at (sym one_at)
 
   -- there the bytes are fields where they are from it on
   pub fields_behind : are_fields (drop at m) ≡ are_fields (drop past m)
@@ -60,7 +63,7 @@ module _ (m : List ℕ) (at : ℕ) (a : Standing m at) where
 module _ (m : List ℕ) (at : ℕ) where
   -- what stands at a place: no field, which is right at the message's end alone, or a field
   pub data Place : Type 0 where
-    stop : (field_at m at).tag ≡ 0 → eqb at (length m) ≡ are_fields (drop at m) → (are_fields (drop at m) ≡ true → fields_of (drop at m) ≡ []) → Place
+    stop : field_at m at ≡ None → eqb at (length m) ≡ are_fields (drop at m) → (are_fields (drop at m) ≡ true → fields_of (drop at m) ≡ []) → Place
     field : Standing m at → Place
 
   pub place : at ≤ length m → Place
@@ -79,10 +82,10 @@ module _ (m : List ℕ) (at : ℕ) where
               let b = behind_at m at f fs e in
               stop (rw (e, g)) (rw (e, g, and_no) (ne_eqb at (length m) (λ k. omega arith))) (λ k. absurd (true≢false (sym (rw (e, g, and_no) at k))))
 
-  -- a field stands where a tag does
-  pub standing : at ≤ length m → ((field_at m at).tag ≡ 0 → ⊥) → Standing m at
-  standing h n = go (place h)
+  -- a field that is found stands there
+  pub standing : at ≤ length m → {f : Field} → field_at m at ≡ Some f → Standing m at
+  standing h {f} n = go (place h)
     where
       go : Place → Standing m at
-      go (stop t e l) = absurd (n t)
+      go (stop t e l) = absurd cc
       go (field a) = a

@@ -2,7 +2,7 @@
 use Rattle.std.specs.Prelude.{List, [], ◌∷◌, cond, ℕ, ◌+◌, eqb, length}
 use Rattle.rules.specs.Fix.{tag_of}
 use Rattle.fields.specs.declared.Field.{Field}
-use Rattle.fields.specs.Fields.{no_field, placed_at}
+use Rattle.fields.specs.Fields.{placed_at}
 use Rattle.scan.specs.declared.Scan.{Scan}
 use Rattle.scan.specs.Scanning.{step_of}
 
@@ -10,6 +10,10 @@ use Rattle.scan.specs.Scanning.{step_of}
 unfoldable pub run_scan : List ℕ → ℕ → Scan → List (List ℕ) → Scan
 run_scan m at s [] = s
 run_scan m at s (f ∷ fs) = run_scan m (at + length f + 1) (step_of m s (placed_at at f)) fs
+
+-- any field, where none is asked for
+abbrev no_field : Field
+no_field = record { tag = 0; value = record { start = 0; end = 0 }; next = 0 }
 
 -- the first of them with the tag `t`
 unfoldable pub first_with : ℕ → ℕ → List (List ℕ) → Field

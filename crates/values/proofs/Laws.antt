@@ -1,40 +1,55 @@
 -- The digits at the front, as a loop reads them; values by their parts.
-use mathlib.Core.Path.{◌≡◌, refl, sym}
-use mathlib.Core.Bool.{Bool, true, false, cond, ◌&&◌, true≢false}
+use mathlib.Core.Path.{◌≡◌, refl}
+use mathlib.Core.Bool.{true, false, ◌&&◌}
 use mathlib.Core.List.{List, [], ◌∷◌}
 use Prim.Native.Nat.{ℕ, zero, suc, ◌+◌, ◌-◌, ◌*◌, ◌^◌, ◌≤◌, ◌<◌}
 use native.Mathlib.Omega.{arith}
 use native.Mathlib.Numerals.{add-one}
 use lib.ListN.{length, get_or, take, drop, length-drop, drop_of_length-le}
-use lib.Seq.{drop-cons, drop-length, take_all, take-length, length-take-le, slice}
-use lib.Dec.{eqb, leb, ltb, leb-zero, leb-suc-suc}
+use lib.Seq.{drop-cons, take_all, length-take-le}
+use lib.Dec.{eqb, ltb, leb-zero, leb-suc-suc}
 use lib.IntN.{pos, neg_ℤ}
-use borrow.Author.Tests.{le-leb, lt-leb}
+use borrow.Author.Tests.{le-leb, lt-leb, eq-eqb, ne_eqb}
 use Rattle.rules.specs.Limits.{within}
 use Rattle.rules.specs.Numerals.{value, are_digits}
-use Rattle.rules.specs.Symbol.{is_digit}
 use Rattle.rules.specs.Order.{price_of}
-use Rattle.rules.specs.Fix.{is_number, leading_digits, has_minus, are_decimals, is_amount, mills_of}
+use Rattle.rules.specs.Fix.{is_number, leading_digits, are_decimals, is_amount, mills_of}
 use Rattle.rules.proofs.Numerals.{value_below}
-use Rattle.rules.proofs.Tests.{and_both, and_of, within_both}
+use Rattle.rules.proofs.Tests.{and_both, and_no, within_both}
 use Rattle.number_values.proofs.Laws.{Number, number_parts, number_of_parts, leading_few, leading_lem}
 
 -- ---- forms, as code tests them
-
-pub no_minus : (v : List ℕ) → length v ≡ 0 → false ≡ has_minus v
-no_minus [] h = refl
-no_minus (x ∷ xs) h = absurd (omega arith)
 
 pub no_decimals : (v : List ℕ) → length v ≡ 0 → true ≡ are_decimals v
 unfolding are_decimals
 no_decimals [] h = refl
 no_decimals (x ∷ xs) h = absurd (omega arith)
 
--- of bytes that are there: the first is the point, the others one to three digits
-pub decimals : (v : List ℕ) → (length v ≡ 0 → ⊥) → are_decimals v ≡ eqb (get_or v 0 0) 46 && within 2 4 (length v) && are_digits 10 48 (slice 1 (length v) v)
-unfolding are_decimals
-decimals [] h = absurd (h refl)
-decimals (b ∷ ds) h = rw (leb-suc-suc 1 (length ds), leb-suc-suc (length ds) 3, take-length ds)
+module _ (v : List ℕ) (some : length v ≡ 0 → ⊥) where
+  pub no_point_first : (get_or v 0 0 ≡ 46 → ⊥) → false ≡ are_decimals v
+  unfolding are_decimals
+  no_point_first h = go v some h
+    where
+      go : (v : List ℕ) → (length v ≡ 0 → ⊥) → (get_or v 0 0 ≡ 46 → ⊥) → false ≡ are_decimals v
+      go [] s h = absurd (s refl)
+      go (b ∷ ds) s h = rw (ne_eqb b 46 h)
+
+  pub long_decimals : 3 < length (drop 1 v) → false ≡ are_decimals v
+  unfolding are_decimals
+  long_decimals h = go v some h
+    where
+      go : (v : List ℕ) → (length v ≡ 0 → ⊥) → 3 < length (drop 1 v) → false ≡ are_decimals v
+      go [] s h = absurd (s refl)
+      go (b ∷ ds) s h = rw (lt-leb (length ds) 3 h, and_no, and_no)
+
+  -- of bytes that are there: the first is the point, the others one to three digits
+  pub decimals : get_or v 0 0 ≡ 46 → length (drop 1 v) ≤ 3 → is_number (drop 1 v) ≡ are_decimals v
+  unfolding are_decimals is_number
+  decimals e h = go v some e h
+    where
+      go : (v : List ℕ) → (length v ≡ 0 → ⊥) → get_or v 0 0 ≡ 46 → length (drop 1 v) ≤ 3 → is_number (drop 1 v) ≡ are_decimals v
+      go [] s e h = absurd (s refl)
+      go (b ∷ ds) s e h = rw (eq-eqb b 46 e, le-leb (length ds) 3 h, le-leb (length ds) 15 (omega arith))
 
 -- the bytes from a place on, as code lends them
 pub rest_of : (v : List ℕ) (k : ℕ) → take (length v - k) (drop k v) ≡ drop k v

@@ -6,7 +6,6 @@ ghost use Rattle.rules.specs.Order.{price_of};
 ghost use Rattle.rules.specs.Fix.{is_one_or_two, is_number, number_of, has_minus, unsigned};
 ghost use Rattle.rules.specs.Fix.{are_decimals, is_amount, is_price, has_form, mills_of, price_said};
 
-use digits::are_digits;
 use number_values::{is_byte, is_number, is_one, leading_digits, number_of};
 use rules::{Mills, Price};
 
@@ -17,15 +16,14 @@ fn is_one_or_two(v: &[u8]) -> bool
 }
 
 // Whether the bytes are none, or a point and one to three digits.
-#[tactic(auto, using(crate::proofs::Laws::no_decimals, crate::proofs::Laws::decimals))]
+#[tactic(auto, using(crate::proofs::Laws::rest_of, crate::proofs::Laws::no_decimals, crate::proofs::Laws::no_point_first, crate::proofs::Laws::long_decimals, crate::proofs::Laws::decimals))]
 fn are_decimals(v: &[u8]) -> bool
     ensures { result ≡ are_decimals v.now }
 {
     match v {
         [] => true,
-        [point, digits @ ..] => {
-            *point == b'.' && 1 <= digits.len() && digits.len() <= 3 && are_digits(digits)
-        }
+        [b'.', digits @ ..] => digits.len() <= 3 && is_number(digits),
+        _ => false,
     }
 }
 
@@ -84,7 +82,7 @@ fn decimal_mills(v: &[u8]) -> u64
 }
 
 // The mills that dollars without a sign say.
-#[tactic(auto, unfolding(rules::specs::Fix::mills_of), using(crate::proofs::Laws::whole_digits, crate::proofs::Laws::no_point, crate::proofs::Laws::rest_of, crate::proofs::Laws::leading_few))]
+#[tactic(auto, unfolding(rules::specs::Fix::mills_of), using(crate::proofs::Laws::whole_digits, crate::proofs::Laws::no_point, crate::proofs::Laws::rest_of, number_values::proofs::Laws::leading_few))]
 fn mills_of(v: &[u8]) -> u64
     requires { is_amount v.now ≡ true }
     ensures { (result ≡ mills_of v.now) × (result < 1000000000000000000) }

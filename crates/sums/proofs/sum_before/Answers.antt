@@ -1,12 +1,13 @@
-use Rattle.std.proofs.Common.{◌∙◌, arith}
-use Rattle.sums.proofs.Laws.{sum_turn}
+-- The fold adds the bytes one by one.
+use Rattle.std.proofs.Common.{◌∙◌, ◌+◌, ◌%◌, take, arith, rules, tests}
+use Rattle.std.proofs.lemmas.Iterator.{YieldsList-from_slice}
+use Rattle.std.proofs.lemmas.Iterator.Consumers.{fold_from_yields_List}
+use Rattle.sums.proofs.Laws.{sum_lem}
 use Rattle.sums.proofs.sum_before.Goals as goal
 
-pub loop-i-preserved : goal.loop-i-preserved
-loop-i-preserved c =
-    let l = c.loop-i in
-    record {
-      sums = sum_turn c.args.message.now c.args.to l.sum c.wide.result l.i c.requires (omega arith) c.wide.ensures.0 ∙ l.invariant.sums;
-      small = omega arith;
-      within = omega arith;
-    }
+pub returns : goal.returns
+returns c =
+    let bytes = take c.args.to c.args.message.now in
+    let added = fold_from_yields_List _ (λ s b. (s + b) % 256) 0 c.fold-sum.result c.fold-sum.ensures.ran (YieldsList-from_slice bytes cc) (λ s x b q k. search (rules, tests)) in
+    let sum = added ∙ sum_lem bytes in
+    omega arith

@@ -1,12 +1,13 @@
 -- The number of digits decides by what the number is multiplied.
+use Rattle.std.proofs.Common.{arith}
 use Rattle.values.proofs.Laws.{one_digit, two_digits, three_digits}
 use Rattle.values.proofs.decimal_mills.Goals as goal
 
-pub returns-then-v-eq1 : goal.returns-then-v-eq1
-returns-then-v-eq1 c = one_digit c.args.v.now c.requires.0 _ c.number_of-said.ensures.0 c.if-v-eq1.true
+pub returns-in-1 : goal.returns-in-1
+returns-in-1 c = one_digit c.args.v.now c.requires.0 _ c.number_of-said.ensures.0 (omega arith)
 
-pub returns-then-v-eq2 : goal.returns-then-v-eq2
-returns-then-v-eq2 c = two_digits c.args.v.now c.requires.0 _ c.number_of-said.ensures.0 c.if-v-eq2.true
+pub returns-in-2 : goal.returns-in-2
+returns-in-2 c = two_digits c.args.v.now c.requires.0 _ c.number_of-said.ensures.0 (omega arith)
 
-pub returns : goal.returns
-returns c = three_digits c.args.v.now c.requires.0 _ c.number_of-said.ensures.0 c.requires.1 c.if-v-eq1.false c.if-v-eq2.false
+pub returns-in_default : goal.returns-in_default
+returns-in_default c = three_digits c.args.v.now c.requires.0 _ c.number_of-said.ensures.0 c.requires.1 (omega arith) (omega arith)
