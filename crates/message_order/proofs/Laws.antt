@@ -12,6 +12,8 @@ use Rattle.rules.specs.declared.RawLeg.{RawLeg}
 use Rattle.rules.specs.Lists.{all}
 use Rattle.rules.specs.Fix.{fields_of, is_field, tag_of, value_of, has_form, is_formed, is_number, group_tags, legs_said}
 use Rattle.rules.proofs.Tests.{and_both}
+use Rattle.std.specs.Prelude.{Some}
+use Rattle.std.specs.Option.{IsSome}
 use Rattle.fields.specs.declared.Field.{Field}
 use Rattle.fields.specs.Fields.{placed_at, field_at, Inside, value_in}
 use Rattle.fields.proofs.Laws.{inside_at, stands, value_at_lem, behind_at}
@@ -20,13 +22,17 @@ use Rattle.message_order.specs.Groups.{groups_at, HasGroups, IsGroup, leg_of_fie
 -- a field that was read where a field stands
 record Stepped (m f : List ℕ) (fs : List (List ℕ)) (r : Field) : Type 0 where
   value : value_in m r ≡ value_of f
-  inside : Inside (length m) r
+  inside : Inside (length m) r.value
   behind : fields_of (drop r.next m) ≡ fs
 
-step : (m : List ℕ) (at : ℕ) {f : List ℕ} {fs : List (List ℕ)} {r : Field} → fields_of (drop at m) ≡ f ∷ fs → is_field f ≡ true → r ≡ field_at m at → Stepped m f fs r
-step m at {f} {fs} {r} are h e =
-    let p : r ≡ placed_at at f = e ∙ stands m at f fs are h in
-    record { value = rw p (value_at_lem m at f fs are); inside = rw e (inside_at m at); behind = rw p (behind_at m at f fs are).0 }
+module _ (m : List ℕ) (at : ℕ) {f : List ℕ} {fs : List (List ℕ)} (are : fields_of (drop at m) ≡ f ∷ fs) (h : is_field f ≡ true) where
+  there : IsSome (field_at m at)
+  there = rw (stands m at f fs are h)
+
+  step : {r : Field} → field_at m at ≡ Some r → Stepped m f fs r
+  step {r} e =
+      let p : r ≡ placed_at at f = cc (stands m at f fs are h) in
+      record { value = rw p (value_at_lem m at f fs are); inside = rw p (inside_at m at f fs are h); behind = rw p (behind_at m at f fs are).0 }
 
 -- a group, and `k` groups behind it, among fields
 record Group (k : ℕ) (all_fields : List (List ℕ)) : Type 0 where
@@ -85,35 +91,47 @@ first_group k (f ∷ g ∷ h ∷ fs) a b t =
     }
 
 -- what the loop reads of a group
-module _ {m : List ℕ} {at k : ℕ} (h : HasGroups m at (suc k)) {s r d : Field} (es : s ≡ field_at m at) (er : r ≡ field_at m s.next) (ed : d ≡ field_at m r.next) where
+module _ {m : List ℕ} {at k : ℕ} (h : HasGroups m at (suc k)) where
   group : Group k (fields_of (drop at m))
   group = first_group k (fields_of (drop at m)) h.fields h.formed h.tags
 
-  symbol_read : Stepped m group.symbol (group.ratio ∷ group.side ∷ group.rest) s
-  symbol_read = step m at group.are group.is_symbol_lem es
+  pub symbol_there : IsSome (field_at m at)
+  symbol_there = there m at group.are group.is_symbol_lem
 
-  ratio_read : Stepped m group.ratio (group.side ∷ group.rest) r
-  ratio_read = step m s.next symbol_read.behind group.is_ratio er
+  module _ {s : Field} (es : field_at m at ≡ Some s) where
+    symbol_read : Stepped m group.symbol (group.ratio ∷ group.side ∷ group.rest) s
+    symbol_read = step m at group.are group.is_symbol_lem es
 
-  side_read : Stepped m group.side group.rest d
-  side_read = step m r.next ratio_read.behind group.is_side ed
+    pub ratio_there : IsSome (field_at m s.next)
+    ratio_there = there m s.next symbol_read.behind group.is_ratio
 
-  pub is_group_lem : IsGroup m s r d
-  is_group_lem =
-      record {
-        symbol_inside = symbol_read.inside;
-        ratio_inside = ratio_read.inside;
-        side_inside = side_read.inside;
-        whole = rw symbol_read.value group.whole;
-        number = rw ratio_read.value group.number;
-      }
+    module _ {r : Field} (er : field_at m s.next ≡ Some r) where
+      ratio_read : Stepped m group.ratio (group.side ∷ group.rest) r
+      ratio_read = step m s.next symbol_read.behind group.is_ratio er
 
-  pub groups_behind : HasGroups m d.next k
-  groups_behind = record { fields = rw side_read.behind group.fields; formed = rw side_read.behind group.formed; tags = rw side_read.behind group.tags }
+      pub side_there : IsSome (field_at m r.next)
+      side_there = there m r.next ratio_read.behind group.is_side
 
-  pub said : legs_said (groups_at m at (suc k)) ≡ leg_of_fields m s r d ∷ legs_said (groups_at m d.next k)
-  unfolding legs_said
-  said = rw (group.are, three_more k, symbol_read.value, ratio_read.value, side_read.value, side_read.behind)
+      module _ {d : Field} (ed : field_at m r.next ≡ Some d) where
+        side_read : Stepped m group.side group.rest d
+        side_read = step m r.next ratio_read.behind group.is_side ed
+
+        pub is_group_lem : IsGroup m s r d
+        is_group_lem =
+            record {
+              symbol_inside = symbol_read.inside;
+              ratio_inside = ratio_read.inside;
+              side_inside = side_read.inside;
+              whole = rw symbol_read.value group.whole;
+              number = rw ratio_read.value group.number;
+            }
+
+        pub groups_behind : HasGroups m d.next k
+        groups_behind = record { fields = rw side_read.behind group.fields; formed = rw side_read.behind group.formed; tags = rw side_read.behind group.tags }
+
+        pub said : legs_said (groups_at m at (suc k)) ≡ leg_of_fields m s r d ∷ legs_said (groups_at m d.next k)
+        unfolding legs_said
+        said = rw (group.are, three_more k, symbol_read.value, ratio_read.value, side_read.value, side_read.behind)
 
 -- of `n` groups, those from the group `i` on: one, and those behind it
 pub one_more : (n i : ℕ) → i < n → n - i ≡ suc (n - (i + 1))

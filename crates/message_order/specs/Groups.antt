@@ -18,9 +18,9 @@ pub record HasGroups (m : List ℕ) (at n : ℕ) : Type 0 where
 
 -- the three fields of a group stand in the message, with a symbol of 21 bytes and a ratio that is a number
 pub record IsGroup (m : List ℕ) (symbol ratio side : Field) : Type 0 where
-  pub symbol_inside : Inside (length m) symbol
-  pub ratio_inside : Inside (length m) ratio
-  pub side_inside : Inside (length m) side
+  pub symbol_inside : Inside (length m) symbol.value
+  pub ratio_inside : Inside (length m) ratio.value
+  pub side_inside : Inside (length m) side.value
   pub whole : length (value_in m symbol) ≡ 21
   pub number : is_number (value_in m ratio) ≡ true
 
