@@ -187,17 +187,15 @@ module _ (second : Bool) (ls : List Leg) (few : length ls ≤ 16) (range : All (
         ∙ ap₂ (legs_from root second) arranged_tags arranged_sizes
         ∙ legs_back root second (sequenced second ls) range_sequenced (roots_sequenced root one)
 
-    pub arranged_tagged : length tags ≡ 16 → Tagged n tags
-    arranged_tagged full =
-        record {
-          few = rw many at few;
-          full = full;
-          small = rw arranged_tags (all_map (λ t. t < 40000000000000000) (tag_of second) (sequenced second ls) (each (sequenced second ls) range_sequenced));
-        }
+    pub arranged_small : All (λ t. t < 40000000000000000) (take n tags)
+    arranged_small = rw arranged_tags (all_map (λ t. t < 40000000000000000) (tag_of second) (sequenced second ls) (each (sequenced second ls) range_sequenced))
       where
         each : (xs : List Leg) → All (λ x. InRange x.series) xs → All (λ x. tag_of second x < 40000000000000000) xs
         each [] h = tt
         each (x ∷ xs) h = (tag_small second x h.0, each xs h.1)
+
+    pub arranged_tagged : length tags ≡ 16 → Tagged n tags
+    arranged_tagged full = record { few = rw many at few; full = full; small = arranged_small }
 
 -- ---- the first of an array are arranged, and put back
 

@@ -36,7 +36,7 @@ pub fn classify(
         result }
 {
     units(&left[..n], &mut counts[..n]);
-    let paired = both_walks(tags, left, n, european);
+    let paired = both_walks(&tags[..n], &mut left[..n], european);
     let class = class_of(tags, counts, n, paired.class);
     let shape = shape_of(tags, counts, n);
     Classified {

@@ -1,9 +1,9 @@
 // Loners beside pairs, and the class that both give.
 #![tactic(auto)]
 
-ghost use Rattle.std.specs.Prelude.{◌≡◌, ◌≤◌, length};
+ghost use Rattle.std.specs.Prelude.{◌≡◌, ◌≤◌};
 ghost use Rattle.answers.specs.Answers.{class_number};
-ghost use Rattle.loners.specs.Tallies.{alone_at, tally_class, joined_tallies, Loners};
+ghost use Rattle.loners.specs.Tallies.{alone_at, tally_class, joined_tallies, alone_in};
 
 use answers::Class;
 use keys::is_bought;
@@ -23,16 +23,13 @@ fn lone(t: PairTally, tag: u64, left: u64) -> PairTally
     }
 }
 
-// The tally with the loners among the first n legs.
-pub fn loners(t: PairTally, tags: &[u64; 16], left: &[u64; 16], n: usize) -> PairTally
-    requires { (length tags.now ≡ 16) × (length left.now ≡ 16) × (n ≤ 16) }
-    ensures { Loners t tags.now left.now n result }
+// The tally with the loners among the legs.
+pub fn loners(t: PairTally, tags: &[u64], left: &[u64]) -> PairTally
+    ensures { result ≡ alone_in t tags.now left.now }
 {
-    let mut r = t;
-    for i in 0..n {
-        r = lone(r, tags[i], left[i]);
-    }
-    r
+    tags.iter()
+        .zip(left)
+        .fold(t, |r, (tag, n)| lone(r, *tag, *n))
 }
 
 // Two tallies as one.

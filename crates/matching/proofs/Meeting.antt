@@ -5,7 +5,7 @@ use mathlib.Core.Bool.{Bool, false, not}
 use Prim.Native.Nat.{ℕ, ◌≤◌, ◌<◌, ◌-◌, ◌+◌}
 use native.Mathlib.Omega.{arith}
 use lib.IntN.{ℤ, nat_abs}
-use lib.ListN.{get_or, set}
+use lib.ListN.{length, get_or, set}
 use borrow.Author.Tests.{ne_eqb}
 use mir.Syntax.{w64}
 use mir.Val.{to_z, of_z}
@@ -27,7 +27,7 @@ some_noted t d n h = rw (ne_eqb n 0 (λ e. absurd (omega arith)))
 pub sign_read : (bought : Bool) (s : ℤ) → s ≡ sign bought → to_z w64 (of_z w64 s) ≡ sign bought
 sign_read bought s e = held s (rw e (omega (arith, sign_small bought))) ∙ e
 
-module _ (tags left : List ℕ) (n i at m : ℕ) (s : Step) (sequence : InSequence n tags left) (within : at < n) where
+module _ (tags left : List ℕ) (i at m : ℕ) (s : Step) (sequence : InSequence tags left) (within : at < length tags) where
   abbrev tx : ℕ
   tx = get_or tags i 0
 
@@ -36,11 +36,11 @@ module _ (tags left : List ℕ) (n i at m : ℕ) (s : Step) (sequence : InSequen
     few = rw matched at (matched_small tx m (get_or tags at 0) (get_or left at 0)).1
 
     pub few_all : m ≤ 10000
-    few_all = omega (arith, few, count_at tags left n sequence at within)
+    few_all = omega (arith, few, count_at tags left sequence at within)
 
-    module _ (counts : Counts tags left n i (i + 1) s.figure) where
+    module _ (counts : Counts tags left i (i + 1) s.figure) where
       pub figure_small : nat_abs s.figure ≤ 160000
-      figure_small = rw (counts 0 false) (figure_fits tags left n sequence false 0 (series_in tags false i) (i + 1))
+      figure_small = rw (counts 0 false) (figure_fits tags left sequence false 0 (series_in tags false i) (i + 1))
 
       pub figure_read : to_z w64 (of_z w64 s.figure) ≡ s.figure
       figure_read = held s.figure (omega (arith, figure_small))
@@ -50,15 +50,15 @@ module _ (tags left : List ℕ) (n i at m : ℕ) (s : Step) (sequence : InSequen
       gained = held _ (omega (arith, adjusted_small s.figure (is_bought tx) m, figure_small, few_all))
 
       pub leaves : i < at → 1 ≤ m
-          → Meets tags left (set left at (get_or left at 0 - m)) i at n m s (after_match s (not (is_bought tx)) (adjusted s.figure (sign (is_bought tx)) m))
+          → Meets tags left (set left at (get_or left at 0 - m)) i at m s (after_match s (not (is_bought tx)) (adjusted s.figure (sign (is_bought tx)) m))
       leaves before some = record {
         rest = refl;
         tally =
             counted_more s.debits s.credits (not (is_bought tx))
             ∙ some_noted (tally_of s) (not (is_bought tx)) m some
-            ∙ note_rising (tally_of s) tx (get_or tags at 0) m (rises tags left n sequence i at before within);
+            ∙ note_rising (tally_of s) tx (get_or tags at 0) m (rises tags left sequence i at before within);
         figure = λ root second.
             ap (λ (z : ℤ). adjusted z (sign (is_bought tx)) m) (counts root second)
-            ∙ met_figure tags left n sequence second root i at m m before within (sym matched);
+            ∙ met_figure tags left sequence second root i at m m before within (sym matched);
         group = refl;
       }

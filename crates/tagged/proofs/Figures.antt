@@ -7,8 +7,8 @@ use Prim.Native.Nat.{ℕ, zero, suc, ◌+◌, ◌-◌, ◌/◌, ◌<◌, ◌≤�
 use native.Mathlib.Omega.{arith}
 use lib.Dec.{eqb}
 use lib.IntN.{ℤ, pos, nat_abs, sub_ℕ}
-use lib.ListN.{length, take, drop, get_or, set, length-set, length-drop, take-append-drop}
-use lib.Seq.{get_or-take, get_or-drop, length-take-le, take-take, take-set-lt, drop-set-lt, drop-set-add, drop-drop}
+use lib.ListN.{length, take, drop, get_or, set, length-set, length-drop, take-append-drop, drop_of_length-le}
+use lib.Seq.{get_or-drop, drop-set-lt, drop-set-add, drop-drop}
 use borrow.Author.Tests.{eqb-true, eqb-false, eq-eqb, ne_eqb}
 use Rattle.rules.specs.declared.Series.{Series}
 use Rattle.rules.specs.declared.Leg.{Leg}
@@ -21,15 +21,14 @@ use Rattle.open_contracts.proofs.Sides.{walk_each_two}
 use Rattle.open_contracts.proofs.Searching as searching
 use Rattle.open_contracts.proofs.Searching.{Searching}
 use Rattle.open_contracts.proofs.Running.{parts, closing}
-use Rattle.loops.proofs.Finding as finding
 use Rattle.sorting.specs.Keys.{EachTwo}
-use Rattle.keys.specs.Tags.{group_of, series_at, is_bought, leg_at, legs_from, legs_in, Tagged}
-use Rattle.arranging.proofs.Zip.{zip_set, zip_take}
+use Rattle.keys.specs.Tags.{group_of, series_at, is_bought, leg_at, legs_from}
+use Rattle.arranging.proofs.Zip.{zip_set}
 use Rattle.tagged.specs.declared.PairTally.{PairTally}
 use Rattle.tagged.specs.declared.Step.{Step}
 use Rattle.tagged.specs.Tags.{together, matched_at, InSequence, legs_from_on, series_in, Counts, OneSideOpen, Stands, reached, Reaches}
 use Rattle.tagged.proofs.Tagging.{group, matched_tags}
-use Rattle.tagged.proofs.Walking.{later}
+use Rattle.tagged.proofs.Walking.{later, step}
 use Rattle.tagged.proofs.Numbered.{all_at, tag_at_small, legs_full, leg_is, Outer}
 
 pub grouping : (second : Bool) → Grouping (together second)
@@ -87,65 +86,57 @@ lined_tags root second t h (u ∷ ts) (n ∷ ns) a r s = ((λ e. others ts ns (a
     others (v ∷ vs) [] g k l = tt
     others (v ∷ vs) (m ∷ ms) g k l = (group root second t v h l.0 ∙ ne_eqb (group_of t) (group_of v) (λ e. absurd (omega (arith, k.0))), others vs ms g k.1 l.1)
 
-module _ (tags left : List ℕ) (n : ℕ) (q : InSequence n tags left) where
+module _ (tags left : List ℕ) (q : InSequence tags left) where
   -- contracts in their limit are put at a place
-  pub sequence_set : (j v : ℕ) → j < n → v ≤ 10000 → InSequence n tags (set left j v)
-  sequence_set j v h p =
+  pub sequence_set : (j v : ℕ) → v ≤ 10000 → InSequence tags (set left j v)
+  sequence_set j v p =
       record {
-        valid = q.valid;
+        few = q.few;
+        long = length-set left j v ∙ q.long;
+        small = q.small;
         rising = q.rising;
-        full = length-set left j v ∙ q.full;
-        counts = rw (take-set-lt n left j v h) (all_set (λ s. s ≤ 10000) (take n left) j v q.counts p);
+        counts = all_set (λ s. s ≤ 10000) left j v q.counts p;
       }
 
-  pub count_at : (j : ℕ) → j < n → get_or left j 0 ≤ 10000
-  count_at j h = rw (← get_or-take n left j 0 h) (all_at (λ s. s ≤ 10000) (take n left) q.counts j (omega (arith, length-take-le n left (omega (arith, q.full, q.valid.few)))))
+  pub count_at : (j : ℕ) → j < length tags → get_or left j 0 ≤ 10000
+  count_at j h = all_at (λ s. s ≤ 10000) left q.counts j (omega (arith, q.long))
 
   -- the tags behind one have greater keys
-  here : (i : ℕ) → i < n → drop i (take n tags) ≡ get_or tags i 0 ∷ drop (i + 1) (take n tags)
-  here i h = finding.step 0 tags n (omega (arith, q.valid.few, q.valid.full)) i h
-
-  above : (i j : ℕ) → i < n → i < j → All (λ u. get_or tags i 0 / 2 < u / 2) (drop j (take n tags))
+  above : (i j : ℕ) → i < length tags → i < j → All (λ u. get_or tags i 0 / 2 < u / 2) (drop j tags)
   above i j h l =
       let place : i + 1 + (j - (i + 1)) ≡ j = omega arith in
-      let a = (rw (here i h) at (each_two_drop (λ a b. a / 2 < b / 2) i (take n tags) q.rising)).0 in
-      rw place at (rw (drop-drop (j - (i + 1)) (i + 1) (take n tags)) at (all_drop (λ u. get_or tags i 0 / 2 < u / 2) (j - (i + 1)) (drop (i + 1) (take n tags)) a))
+      let a = (rw (step 0 tags i h) at (each_two_drop (λ a b. a / 2 < b / 2) i tags q.rising)).0 in
+      rw place at (rw (drop-drop (j - (i + 1)) (i + 1) tags) at (all_drop (λ u. get_or tags i 0 / 2 < u / 2) (j - (i + 1)) (drop (i + 1) tags) a))
 
-  pub rises : (i j : ℕ) → i < j → j < n → get_or tags i 0 / 2 < get_or tags j 0 / 2
-  rises i j l k = (rw (here j k) at (above i j (omega arith) l)).0
+  pub rises : (i j : ℕ) → i < j → j < length tags → get_or tags i 0 / 2 < get_or tags j 0 / 2
+  rises i j l k = (rw (step 0 tags j k) at (above i j (omega arith) l)).0
 
-module _ (tags left : List ℕ) (n : ℕ) (q : InSequence n tags left) (second : Bool) (root : ℕ) where
-  fits : n ≤ 16
-  fits = q.valid.few
-
+module _ (tags left : List ℕ) (q : InSequence tags left) (second : Bool) (root : ℕ) where
   abbrev legs : List Leg
   legs = legs_from root second tags left
 
-  full : length legs ≡ 16
-  full = legs_full tags n q.valid second root left q.full
-
-  many : length (take n tags) ≡ length (take n left)
-  many = length-take-le n tags (omega (arith, fits, q.valid.full)) ∙ sym (length-take-le n left (omega (arith, fits, q.full)))
+  full : length legs ≡ length tags
+  full = legs_full tags q.small second root left q.long
 
   -- the legs from `j` on, by their tags and contracts
-  from : (j : ℕ) → legs_from_on root tags left n second j ≡ legs_from root second (drop j (take n tags)) (drop j (take n left))
-  from j = ap (drop j) (zip_take (leg_at root second) n tags left) ∙ zip_drop (leg_at root second) j (take n tags) (take n left) many
+  from : (j : ℕ) → legs_from_on root tags left second j ≡ legs_from root second (drop j tags) (drop j left)
+  from j = zip_drop (leg_at root second) j tags left (sym q.long)
 
   -- the leg at `j` and those behind it
-  pub next_leg : (j : ℕ) → j < n → legs_from_on root tags left n second j ≡ leg_at root second (get_or tags j 0) (get_or left j 0) ∷ legs_from_on root tags left n second (j + 1)
+  pub next_leg : (j : ℕ) → j < length tags → legs_from_on root tags left second j ≡ leg_at root second (get_or tags j 0) (get_or left j 0) ∷ legs_from_on root tags left second (j + 1)
   next_leg j h =
-      finding.step no_leg legs n (omega (arith, full, fits)) j h
-      ∙ ap (λ (z : Leg). z ∷ legs_from_on root tags left n second (j + 1)) (leg_is tags n q.valid second root left j q.full (omega (arith, fits)))
+      step no_leg legs j (omega (arith, full))
+      ∙ ap (λ (z : Leg). z ∷ legs_from_on root tags left second (j + 1)) (leg_is tags q.small second root left j q.long h)
 
-  no_leg_lem : (j : ℕ) → n ≤ j → legs_from_on root tags left n second j ≡ []
-  no_leg_lem j h = finding.over no_leg legs n (omega (arith, full, fits)) j h
+  no_leg_lem : (j : ℕ) → length tags ≤ j → legs_from_on root tags left second j ≡ []
+  no_leg_lem j h = drop_of_length-le legs {i = j} (omega (arith, full))
 
   -- ---- groups
 
-  pub lined : (i j : ℕ) → i < n → i < j → Lined (together second) (series_in tags second i) (legs_from_on root tags left n second j)
+  pub lined : (i j : ℕ) → i < length tags → i < j → Lined (together second) (series_in tags second i) (legs_from_on root tags left second j)
   lined i j h l =
       rw (from j)
-      (lined_tags root second (get_or tags i 0) (tag_at_small tags n q.valid i h) (drop j (take n tags)) (drop j (take n left)) (above tags left n q i j h l) (each_two_drop (λ a b. a / 2 < b / 2) j (take n tags) q.rising) (all_drop (λ u. u < 40000000000000000) j (take n tags) q.valid.small))
+      (lined_tags root second (get_or tags i 0) (tag_at_small tags q.small i h) (drop j tags) (drop j left) (above tags left q i j h l) (each_two_drop (λ a b. a / 2 < b / 2) j tags q.rising) (all_drop (λ u. u < 40000000000000000) j tags q.small))
 
   -- ---- bounds
 
@@ -155,97 +146,96 @@ module _ (tags left : List ℕ) (n : ℕ) (q : InSequence n tags left) (second :
   sizes (t ∷ ts) [] h = tt
   sizes (t ∷ ts) (m ∷ ns) h = (h.0, sizes ts ns h.1)
 
-  pub figure_fits : (s : Series) (j : ℕ) → nat_abs (open_contracts (together second) s (legs_from_on root tags left n second j)) ≤ 160000
-  figure_fits s j = figure_small (together second) s 160000 (legs_from_on root tags left n second j) (λ side. omega (arith, open_few (together second) side s 10000 (legs_from_on root tags left n second j) counted, short))
+  pub figure_fits : (s : Series) (j : ℕ) → nat_abs (open_contracts (together second) s (legs_from_on root tags left second j)) ≤ 160000
+  figure_fits s j = figure_small (together second) s 160000 (legs_from_on root tags left second j) (λ side. omega (arith, open_few (together second) side s 10000 (legs_from_on root tags left second j) counted, short))
     where
-      counted : All (λ (l : Leg). l.size ≤ 10000) (legs_from_on root tags left n second j)
-      counted = rw (from j) (sizes (drop j (take n tags)) (drop j (take n left)) (all_drop (λ s. s ≤ 10000) j (take n left) q.counts))
+      counted : All (λ (l : Leg). l.size ≤ 10000) (legs_from_on root tags left second j)
+      counted = rw (from j) (sizes (drop j tags) (drop j left) (all_drop (λ s. s ≤ 10000) j left q.counts))
 
-      short : length (legs_from_on root tags left n second j) ≤ 16
-      short = omega (arith, length-drop j (take n legs), length-take-le n legs (omega (arith, full, fits)), fits)
+      short : length (legs_from_on root tags left second j) ≤ 16
+      short = omega (arith, length-drop j legs, full, q.few)
 
   -- ---- the figure with which a leg begins
 
-  nothing : (s : Series) (j : ℕ) → n ≤ j → open_contracts (together second) s (legs_from_on root tags left n second j) ≡ pos 0
+  nothing : (s : Series) (j : ℕ) → length tags ≤ j → open_contracts (together second) s (legs_from_on root tags left second j) ≡ pos 0
   unfolding open_on
   nothing s j h = rw (no_leg_lem j h) refl
 
-  module _ (i : ℕ) (s : Step) (h : i < n) (g : Stands tags left n (i + 1) s) where
+  module _ (i : ℕ) (s : Step) (h : i < length tags) (g : Stands tags left (i + 1) s) where
     abbrev Begins : Bool → Type 0
-    Begins same = cond same s.figure (pos 0) ≡ open_contracts (together second) (series_in tags second i) (legs_from_on root tags left n second (i + 1))
+    Begins same = cond same s.figure (pos 0) ≡ open_contracts (together second) (series_in tags second i) (legs_from_on root tags left second (i + 1))
 
-    first_of_all : i + 1 ≡ n → (same : Bool) → Begins same
+    first_of_all : i + 1 ≡ length tags → (same : Bool) → Begins same
     first_of_all e true = g.figure root second ∙ nothing (series_in tags second (i + 1)) (i + 1) (omega arith) ∙ sym (nothing (series_in tags second i) (i + 1) (omega arith))
     first_of_all e false = sym (nothing (series_in tags second i) (i + 1) (omega arith))
 
-    module _ (l : i + 1 < n) where
+    module _ (l : i + 1 < length tags) where
       grouped : together second (series_in tags second i) (series_in tags second (i + 1)) ≡ eqb (group_of (get_or tags i 0)) (group_of (get_or tags (i + 1) 0))
-      grouped = group root second (get_or tags i 0) (get_or tags (i + 1) 0) (tag_at_small tags n q.valid i h) (tag_at_small tags n q.valid (i + 1) l)
+      grouped = group root second (get_or tags i 0) (get_or tags (i + 1) 0) (tag_at_small tags q.small i h) (tag_at_small tags q.small (i + 1) l)
 
       goes_on : s.group ≡ group_of (get_or tags i 0) → Begins true
       goes_on e =
           let one = grouped ∙ eq-eqb (group_of (get_or tags i 0)) (group_of (get_or tags (i + 1) 0)) (sym e ∙ g.group l) in
-          let alike : (side : Bool) → open_on (together second) side (series_in tags second i) (legs_from_on root tags left n second (i + 1)) ≡ open_on (together second) side (series_in tags second (i + 1)) (legs_from_on root tags left n second (i + 1)) = λ side. open_alike (together second) (grouping second) side (series_in tags second i) (series_in tags second (i + 1)) (legs_from_on root tags left n second (i + 1)) one in
+          let alike : (side : Bool) → open_on (together second) side (series_in tags second i) (legs_from_on root tags left second (i + 1)) ≡ open_on (together second) side (series_in tags second (i + 1)) (legs_from_on root tags left second (i + 1)) = λ side. open_alike (together second) (grouping second) side (series_in tags second i) (series_in tags second (i + 1)) (legs_from_on root tags left second (i + 1)) one in
           g.figure root second ∙ sym (ap₂ sub_ℕ (alike true) (alike false))
 
       new_group : (s.group ≡ group_of (get_or tags i 0) → ⊥) → Begins false
       new_group d =
           let two = grouped ∙ ne_eqb (group_of (get_or tags i 0)) (group_of (get_or tags (i + 1) 0)) (λ e. d (g.group l ∙ sym e)) in
           let there = next_leg (i + 1) l in
-          let none : (side : Bool) → open_on (together second) side (series_in tags second i) (legs_from_on root tags left n second (i + 1)) ≡ 0 = λ side. rw there (open_past (together second) side (series_in tags second i) (leg_at root second (get_or tags (i + 1) 0) (get_or left (i + 1) 0)) (legs_from_on root tags left n second (i + 1 + 1)) (rw there at (lined i (i + 1) h (omega arith))) two) in
+          let none : (side : Bool) → open_on (together second) side (series_in tags second i) (legs_from_on root tags left second (i + 1)) ≡ 0 = λ side. rw there (open_past (together second) side (series_in tags second i) (leg_at root second (get_or tags (i + 1) 0) (get_or left (i + 1) 0)) (legs_from_on root tags left second (i + 1 + 1)) (rw there at (lined i (i + 1) h (omega arith))) two) in
           sym (ap₂ sub_ℕ (none true) (none false))
 
     pub begins : Begins (eqb s.group (group_of (get_or tags i 0)))
-    begins = go (eqb (i + 1) n) refl (eqb s.group (group_of (get_or tags i 0))) refl
+    begins = go (eqb (i + 1) (length tags)) refl (eqb s.group (group_of (get_or tags i 0))) refl
       where
-        go : (last : Bool) → eqb (i + 1) n ≡ last → (same : Bool) → eqb s.group (group_of (get_or tags i 0)) ≡ same → Begins same
-        go true e same f = first_of_all (eqb-true (i + 1) n e) same
-        go false e true f = goes_on (before (i + 1) n (eqb-false (i + 1) n e) (omega arith)) (eqb-true s.group (group_of (get_or tags i 0)) f)
-        go false e false f = new_group (before (i + 1) n (eqb-false (i + 1) n e) (omega arith)) (eqb-false s.group (group_of (get_or tags i 0)) f)
+        go : (last : Bool) → eqb (i + 1) (length tags) ≡ last → (same : Bool) → eqb s.group (group_of (get_or tags i 0)) ≡ same → Begins same
+        go true e same f = first_of_all (eqb-true (i + 1) (length tags) e) same
+        go false e true f = goes_on (before (i + 1) (length tags) (eqb-false (i + 1) (length tags) e) (omega arith)) (eqb-true s.group (group_of (get_or tags i 0)) f)
+        go false e false f = new_group (before (i + 1) (length tags) (eqb-false (i + 1) (length tags) e) (omega arith)) (eqb-false s.group (group_of (get_or tags i 0)) f)
 
   -- what is put at `i` is not behind it
-  pub put_before : (i x : ℕ) → i < n → legs_from_on root tags (set left i x) n second (i + 1) ≡ legs_from_on root tags left n second (i + 1)
+  pub put_before : (i x : ℕ) → i < length tags → legs_from_on root tags (set left i x) second (i + 1) ≡ legs_from_on root tags left second (i + 1)
   put_before i x h =
       let z = leg_at root second (get_or tags i 0) x in
-      ap (λ (ls : List Leg). drop (i + 1) (take n ls)) (zip_set (leg_at root second) tags left i 0 x (omega (arith, q.valid.full, fits)))
-      ∙ ap (drop (i + 1)) (take-set-lt n legs i z h)
-      ∙ drop-set-lt (i + 1) (take n legs) i z (omega arith)
+      ap (drop (i + 1)) (zip_set (leg_at root second) tags left i 0 x h)
+      ∙ drop-set-lt (i + 1) legs i z (omega arith)
 
   -- what the leg at `i` has left is open from now on
-  pub closes : (i : ℕ) → i < n → let s = series_in tags second i in
-      adjusted (open_contracts (together second) s (legs_from_on root tags left n second (i + 1))) (sign (is_bought (get_or tags i 0))) (get_or left i 0) ≡ open_contracts (together second) s (legs_from_on root tags left n second i)
+  pub closes : (i : ℕ) → i < length tags → let s = series_in tags second i in
+      adjusted (open_contracts (together second) s (legs_from_on root tags left second (i + 1))) (sign (is_bought (get_or tags i 0))) (get_or left i 0) ≡ open_contracts (together second) s (legs_from_on root tags left second i)
   closes i h =
       let s = series_in tags second i in
-      closing (together second) s (leg_at root second (get_or tags i 0) (get_or left i 0)) (legs_from_on root tags left n second (i + 1)) ((grouping second).self s)
+      closing (together second) s (leg_at root second (get_or tags i 0) (get_or left i 0)) (legs_from_on root tags left second (i + 1)) ((grouping second).self s)
       ∙ ap (open_contracts (together second) s) (sym (next_leg i h))
 
   -- ---- the search of the leg at `i`, which has `x` left
 
-  module _ (i : ℕ) (h : i < n) where
+  module _ (i : ℕ) (h : i < length tags) where
     abbrev pub Searches : ℕ → ℕ → ℤ → Type 0
-    Searches x j f = Searching (together second) (leg_at root second (get_or tags i 0) x) (legs_from_on root tags left n second (i + 1)) (legs_from_on root tags left n second j) f
+    Searches x j f = Searching (together second) (leg_at root second (get_or tags i 0) x) (legs_from_on root tags left second (i + 1)) (legs_from_on root tags left second j) f
 
     module _ (x j : ℕ) (f : ℤ) (g : Searches x j f) (p : 0 < x) (e : shows_other f (sign (is_bought (get_or tags i 0))) ≡ true) where
       -- there is a leg at `j`
-      pub inside : j ≤ n → j < n
-      inside l = before j n (λ d. searching.some (together second) (rw (no_leg_lem j (omega arith)) at g) p e) l
+      pub inside : j ≤ length tags → j < length tags
+      inside l = before j (length tags) (λ d. searching.some (together second) (rw (no_leg_lem j (omega arith)) at g) p e) l
 
       -- with which as many contracts are matched as the smaller has open
-      pub meets : i < j → (l : j < n) → matched_at (get_or tags i 0) x (get_or tags j 0) (get_or left j 0) ≡ min x (get_or left j 0)
+      pub meets : i < j → (l : j < length tags) → matched_at (get_or tags i 0) x (get_or tags j 0) (get_or left j 0) ≡ min x (get_or left j 0)
       meets k l =
           let there = next_leg j l in
-          sym (matched_tags root second (get_or tags i 0) (get_or tags j 0) (tag_at_small tags n q.valid i h) (tag_at_small tags n q.valid j l) x (get_or left j 0))
+          sym (matched_tags root second (get_or tags i 0) (get_or tags j 0) (tag_at_small tags q.small i h) (tag_at_small tags q.small j l) x (get_or left j 0))
           ∙ searching.meets (together second) (rw there at g) (rw there at (lined i j h k)) p e
 
     -- a leg that has nothing left is passed
-    pub passed : (x j : ℕ) (f : ℤ) → Searches x j f → j < n → get_or left j 0 ≡ 0 → Searches x (j + 1) f
+    pub passed : (x j : ℕ) (f : ℤ) → Searches x j f → j < length tags → get_or left j 0 ≡ 0 → Searches x (j + 1) f
     passed x j f g l e = searching.pass (together second) (rw (next_leg j l) at g) e
 
   -- ---- the leg at `i` meets the one at `j` with `m` of its `x` contracts
 
-  module _ (i j x m : ℕ) (k : i < j) (l : j < n) (em : m ≡ matched_at (get_or tags i 0) x (get_or tags j 0) (get_or left j 0)) where
+  module _ (i j x m : ℕ) (k : i < j) (l : j < length tags) (em : m ≡ matched_at (get_or tags i 0) x (get_or tags j 0) (get_or left j 0)) where
     abbrev rear : List Leg
-    rear = legs_from_on root tags left n second (i + 1)
+    rear = legs_from_on root tags left second (i + 1)
 
     abbrev at : ℕ
     at = j - (i + 1)
@@ -254,14 +244,13 @@ module _ (tags left : List ℕ) (n : ℕ) (q : InSequence n tags left) (second :
     place = omega arith
 
     long : at < length rear
-    long = omega (arith, length-drop (i + 1) (take n legs), length-take-le n legs (omega (arith, full, fits)))
+    long = omega (arith, length-drop (i + 1) legs, full)
 
     there : get_or rear at no_leg ≡ leg_at root second (get_or tags j 0) (get_or left j 0)
     there =
-        get_or-drop (i + 1) (take n legs) at no_leg
-        ∙ ap (λ (u : ℕ). get_or (take n legs) u no_leg) place
-        ∙ get_or-take n legs j no_leg l
-        ∙ leg_is tags n q.valid second root left j q.full (omega (arith, fits))
+        get_or-drop (i + 1) legs at no_leg
+        ∙ ap (λ (u : ℕ). get_or legs u no_leg) place
+        ∙ leg_is tags q.small second root left j q.long l
 
     abbrev after : List ℕ
     after = set left j (get_or left j 0 - m)
@@ -269,52 +258,52 @@ module _ (tags left : List ℕ) (n : ℕ) (q : InSequence n tags left) (second :
     abbrev z : Leg
     z = leg_at root second (get_or tags j 0) (get_or left j 0 - m)
 
-    stored : take n (legs_from root second tags after) ≡ set (take n legs) j z
-    stored = ap (take n) (zip_set (leg_at root second) tags left j 0 (get_or left j 0 - m) (omega (arith, q.valid.full, fits))) ∙ take-set-lt n legs j z l
+    stored : legs_from root second tags after ≡ set legs j z
+    stored = zip_set (leg_at root second) tags left j 0 (get_or left j 0 - m) l
 
-    rears : legs_from_on root tags after n second (i + 1) ≡ set rear at z
-    rears = ap (drop (i + 1)) stored ∙ ap (λ (u : ℕ). drop (i + 1) (set (take n legs) u z)) (sym place) ∙ drop-set-add (i + 1) (take n legs) at z
+    rears : legs_from_on root tags after second (i + 1) ≡ set rear at z
+    rears = ap (drop (i + 1)) stored ∙ ap (λ (u : ℕ). drop (i + 1) (set legs u z)) (sym place) ∙ drop-set-add (i + 1) legs at z
 
-    rests : legs_from_on root tags after n second (j + 1) ≡ legs_from_on root tags left n second (j + 1)
-    rests = ap (drop (j + 1)) stored ∙ drop-set-lt (j + 1) (take n legs) j z (omega arith)
+    rests : legs_from_on root tags after second (j + 1) ≡ legs_from_on root tags left second (j + 1)
+    rests = ap (drop (j + 1)) stored ∙ drop-set-lt (j + 1) legs j z (omega arith)
 
     as_legs : m ≡ matched (together second) (leg_at root second (get_or tags i 0) x) (leg_at root second (get_or tags j 0) (get_or left j 0))
-    as_legs = em ∙ sym (matched_tags root second (get_or tags i 0) (get_or tags j 0) (tag_at_small tags n q.valid i (omega arith)) (tag_at_small tags n q.valid j l) x (get_or left j 0))
+    as_legs = em ∙ sym (matched_tags root second (get_or tags i 0) (get_or tags j 0) (tag_at_small tags q.small i (omega arith)) (tag_at_small tags q.small j l) x (get_or left j 0))
 
-    pub met_figure : adjusted (open_contracts (together second) (series_in tags second i) rear) (sign (is_bought (get_or tags i 0))) m ≡ open_contracts (together second) (series_in tags second i) (legs_from_on root tags after n second (i + 1))
+    pub met_figure : adjusted (open_contracts (together second) (series_in tags second i) rear) (sign (is_bought (get_or tags i 0))) m ≡ open_contracts (together second) (series_in tags second i) (legs_from_on root tags after second (i + 1))
     met_figure =
         searching.matched_figure (together second) (leg_at root second (get_or tags i 0) x) rear at m long (rw there as_legs)
         ∙ ap (open_contracts (together second) (series_in tags second i)) (ap (λ (w : Leg). set rear at (less w m)) there ∙ sym rears)
 
-    pub met : (f f' : ℤ) → Searching (together second) (leg_at root second (get_or tags i 0) x) rear (legs_from_on root tags left n second j) f
-        → f' ≡ open_contracts (together second) (series_in tags second i) (legs_from_on root tags after n second (i + 1))
-        → Searching (together second) (leg_at root second (get_or tags i 0) (x - m)) (legs_from_on root tags after n second (i + 1)) (legs_from_on root tags after n second (j + 1)) f'
+    pub met : (f f' : ℤ) → Searching (together second) (leg_at root second (get_or tags i 0) x) rear (legs_from_on root tags left second j) f
+        → f' ≡ open_contracts (together second) (series_in tags second i) (legs_from_on root tags after second (i + 1))
+        → Searching (together second) (leg_at root second (get_or tags i 0) (x - m)) (legs_from_on root tags after second (i + 1)) (legs_from_on root tags after second (j + 1)) f'
     met f f' g e = rw (rears, rests) (searching.next (together second) (rw (next_leg j l) at g) at m f' long there as_legs (rw rears at e))
 
 -- the figure does not show the other side: the leg at `i` meets nothing
-module _ (tags left : List ℕ) (n : ℕ) (q : InSequence n tags left) (i : ℕ) (h : i < n) (f : ℤ) (counts : Counts tags left n i (i + 1) f) (one : OneSideOpen tags left n i)
+module _ (tags left : List ℕ) (q : InSequence tags left) (i : ℕ) (h : i < length tags) (f : ℤ) (counts : Counts tags left i (i + 1) f) (one : OneSideOpen tags left i)
     (unshown : shows_other f (sign (is_bought (get_or tags i 0))) ≡ false) where
   module _ (root : ℕ) (second : Bool) where
     x : Leg
     x = leg_at root second (get_or tags i 0) (get_or left i 0)
 
     behind : List Leg
-    behind = legs_from_on root tags left n second (i + 1)
+    behind = legs_from_on root tags left second (i + 1)
 
-    alone : reached root tags left i n second ≡ record { pairs = []; leg = x; legs = behind }
+    alone : reached root tags left i second ≡ record { pairs = []; leg = x; legs = behind }
     unfolding x behind
     alone =
-        ap (λ (z : Leg). reach (together second) z behind) (leg_is tags n q.valid second root left i q.full (omega (arith, q.valid.few)))
+        ap (λ (z : Leg). reach (together second) z behind) (leg_is tags q.small second root left i q.long h)
         ∙ searching.stop (together second) (searching.start (together second) x behind f (counts root second) (one root second)) (inr unshown)
 
-    whole : legs_in root second n tags left ≡ legs_in root second i tags left ++ (x ∷ behind)
+    whole : legs_from root second tags left ≡ take i (legs_from root second tags left) ++ (x ∷ behind)
     unfolding x behind
     whole =
         let legs = legs_from root second tags left in
-        sym (take-append-drop i (take n legs))
-        ∙ ap₂ ◌++◌ (take-take i n legs (omega arith)) (next_leg tags left n q second root i h)
+        sym (take-append-drop i legs)
+        ∙ ap (λ (ls : List Leg). take i legs ++ ls) (next_leg tags left q second root i h)
 
-  pub unsearched : (t : PairTally) → Reaches tags left left i n t t
+  pub unsearched : (t : PairTally) → Reaches tags left left i t t
   unsearched t =
       record {
         legs = λ root second. rw (alone root second) (whole root second);
@@ -326,13 +315,13 @@ module _ (tags left : List ℕ) (n : ℕ) (q : InSequence n tags left) (i : ℕ)
 -- ---- the walk
 
 -- nothing is walked yet
-pub stands_first : (tags left : List ℕ) (n : ℕ) → InSequence n tags left → (s : Step) → s.figure ≡ pos 0 → Stands tags left n n s
-stands_first tags left n q s e = record { figure = λ root second. e ∙ sym (nothing tags left n q second root (series_in tags second n) n (omega arith)); group = λ h. absurd (omega arith) }
+pub stands_first : (tags left : List ℕ) → InSequence tags left → (s : Step) → s.figure ≡ pos 0 → Stands tags left (length tags) s
+stands_first tags left q s e = record { figure = λ root second. e ∙ sym (nothing tags left q second root (series_in tags second (length tags)) (length tags) (omega arith)); group = λ h. absurd (omega arith) }
 
 -- what the walk of the legs behind `i` left
-pub one_side_walked : (tags left₀ left : List ℕ) (n : ℕ) → Tagged n tags → length left₀ ≡ 16 → (t : PairTally) (i : ℕ) → i < n → ((root : ℕ) (second : Bool) → Outer tags n second root left₀ left t (i + 1)) → OneSideOpen tags left n i
-one_side_walked tags left₀ left n tg l t i h o root second =
+pub one_side_walked : (tags left₀ left : List ℕ) → All (λ t. t < 40000000000000000) tags → length left₀ ≡ length tags → (t : PairTally) (i : ℕ) → i < length tags → ((root : ℕ) (second : Bool) → Outer tags second root left₀ left t (i + 1)) → OneSideOpen tags left i
+one_side_walked tags left₀ left small l t i h o root second =
     let same = together second in
     let legs = legs_from root second tags left₀ in
-    let e = later same legs (legs_from root second tags left) n (legs_full tags n tg second root left₀ l) tg.few i h (o root second).done in
-    one_sided_lem same (grouping second) (series_in tags second i) (legs_from_on root tags left n second (i + 1)) (rw e (walk_each_two same (drop (i + 1) (take n legs))))
+    let e = later same legs (legs_from root second tags left) i (omega (arith, legs_full tags small second root left₀ l)) (o root second).done in
+    one_sided_lem same (grouping second) (series_in tags second i) (legs_from_on root tags left second (i + 1)) (rw e (walk_each_two same (drop (i + 1) legs)))

@@ -6,7 +6,8 @@ use Rattle.rules.specs.Lists.{All, same_bool}
 use Rattle.rules.specs.Pairing.{Pair, Reached, reach, walk, one_expiry, one_strike, is_debit}
 use Rattle.rules.specs.OpenContracts.{open_on, open_contracts}
 use Rattle.rules.specs.Order.{no_leg}
-use Rattle.keys.specs.Tags.{is_bought, group_of, series_at, legs_from, legs_in, Tagged, Rising}
+use Rattle.sorting.specs.Keys.{EachTwo}
+use Rattle.keys.specs.Tags.{is_bought, group_of, series_at, legs_from}
 use Rattle.tagged.specs.declared.PairTally.{PairTally}
 use Rattle.tagged.specs.declared.Step.{Step}
 
@@ -52,60 +53,61 @@ noted t (m ∷ ms) = noted (one_more t (is_debit m.buy m.sell)) ms
 
 -- ---- what a walk is given: the tags of either walk. What is promised of them holds with the legs that they say in the first walk, and with those that they say in the second.
 
--- legs in the walk's sequence, and counts in their limit
-pub record InSequence (n : ℕ) (tags left : List ℕ) : Type 0 where
-  pub valid : Tagged n tags
-  pub rising : Rising n tags
-  pub full : length left ≡ 16
-  pub counts : All (λ s. s ≤ 10000) (take n left)
+-- at most sixteen legs in the walk's sequence, no series twice, and counts in their limit
+pub record InSequence (tags left : List ℕ) : Type 0 where
+  pub few : length tags ≤ 16
+  pub long : length left ≡ length tags
+  pub small : All (λ t. t < 40000000000000000) tags
+  pub rising : EachTwo (λ a b. a / 2 < b / 2) tags
+  pub counts : All (λ s. s ≤ 10000) left
 
 -- ---- what a leg that is reached finds
 
 -- the legs from `i` on: latest walked first, they are walked before those that stand before `i`
-abbrev pub legs_from_on : ℕ → List ℕ → List ℕ → ℕ → Bool → ℕ → List Leg
-legs_from_on root tags left n second i = drop i (legs_in root second n tags left)
+abbrev pub legs_from_on : ℕ → List ℕ → List ℕ → Bool → ℕ → List Leg
+legs_from_on root tags left second i = drop i (legs_from root second tags left)
 
 -- the series of the leg at `i`
 abbrev pub series_in : List ℕ → Bool → ℕ → Series
 series_in tags second i = series_at second (get_or tags i 0 / 2)
 
 -- S-3's promise: the figure is the sum of the open contracts, bought less sold, of the legs from `from` on in the group of the leg at `i`
-abbrev pub Counts : List ℕ → List ℕ → ℕ → ℕ → ℕ → ℤ → Type 0
-Counts tags left n i from f = (root : ℕ) (second : Bool) → f ≡ open_contracts (together second) (series_in tags second i) (legs_from_on root tags left n second from)
+abbrev pub Counts : List ℕ → List ℕ → ℕ → ℕ → ℤ → Type 0
+Counts tags left i from f = (root : ℕ) (second : Bool) → f ≡ open_contracts (together second) (series_in tags second i) (legs_from_on root tags left second from)
 
 -- what is open in the group of the leg at `i`, of those behind it, is of one side
-abbrev pub OneSideOpen : List ℕ → List ℕ → ℕ → ℕ → Type 0
-OneSideOpen tags left n i =
-    (root : ℕ) (second side : Bool) → let opened : Bool → ℕ = λ b. open_on (together second) b (series_in tags second i) (legs_from_on root tags left n second (i + 1)) in
+abbrev pub OneSideOpen : List ℕ → List ℕ → ℕ → Type 0
+OneSideOpen tags left i =
+    (root : ℕ) (second side : Bool) → let opened : Bool → ℕ = λ b. open_on (together second) b (series_in tags second i) (legs_from_on root tags left second (i + 1)) in
     0 < opened side → opened (not side) ≡ 0
 
--- the step after the leg at `i`: S-3's promise for its group. At `n` no leg is walked yet, and the figure is 0.
-pub record Stands (tags left : List ℕ) (n i : ℕ) (s : Step) : Type 0 where
-  pub figure : Counts tags left n i i s.figure
-  pub group : i < n → s.group ≡ group_of (get_or tags i 0)
+-- the step after the leg at `i`: S-3's promise for its group. Past the last leg none is walked yet, and the figure is 0.
+pub record Stands (tags left : List ℕ) (i : ℕ) (s : Step) : Type 0 where
+  pub figure : Counts tags left i i s.figure
+  pub group : i < length tags → s.group ≡ group_of (get_or tags i 0)
 
 -- what is left after a match of `m` contracts of the leg at `i` with the one at `at`, and the step: the promise stands after the match as before it
-pub record Meets (tags left after : List ℕ) (i at n m : ℕ) (s r : Step) : Type 0 where
+pub record Meets (tags left after : List ℕ) (i at m : ℕ) (s r : Step) : Type 0 where
   pub rest : after ≡ set left at (get_or left at 0 - m)
   pub tally : tally_of r ≡ note_at (tally_of s) (get_or tags i 0) (get_or tags at 0) m
-  pub figure : Counts tags after n i (i + 1) r.figure
+  pub figure : Counts tags after i (i + 1) r.figure
   pub group : r.group ≡ s.group
 
 -- ---- what it leaves
 
 -- the leg at `i` against those behind it
-abbrev pub reached : ℕ → List ℕ → List ℕ → ℕ → ℕ → Bool → Reached
-reached root tags left i n second =
-    let legs = legs_from root second tags left in reach (together second) (get_or legs i no_leg) (drop (i + 1) (take n legs))
+abbrev pub reached : ℕ → List ℕ → List ℕ → ℕ → Bool → Reached
+reached root tags left i second =
+    let legs = legs_from root second tags left in reach (together second) (get_or legs i no_leg) (drop (i + 1) legs)
 
-pub record Reaches (tags left after : List ℕ) (i n : ℕ) (t r : PairTally) : Type 0 where
-  pub legs : (root : ℕ) (second : Bool) → let q = reached root tags left i n second in legs_in root second n tags after ≡ legs_in root second i tags left ++ (q.leg ∷ q.legs)
-  pub tally : (root : ℕ) (second : Bool) → r ≡ noted t (reached root tags left i n second).pairs
+pub record Reaches (tags left after : List ℕ) (i : ℕ) (t r : PairTally) : Type 0 where
+  pub legs : (root : ℕ) (second : Bool) → let q = reached root tags left i second in legs_from root second tags after ≡ take i (legs_from root second tags left) ++ (q.leg ∷ q.legs)
+  pub tally : (root : ℕ) (second : Bool) → r ≡ noted t (reached root tags left i second).pairs
   pub few : r.pairs ≤ t.pairs + 16
-  pub sequence : InSequence n tags after
+  pub sequence : InSequence tags after
 
 -- the definition's walk: what is left, and the tally of the pairs
-pub record Walks (tags left after : List ℕ) (n : ℕ) (r : PairTally) : Type 0 where
-  pub legs : (root : ℕ) (second : Bool) → legs_in root second n tags after ≡ (walk (together second) (legs_in root second n tags left)).legs
-  pub tally : (root : ℕ) (second : Bool) → r ≡ noted none (walk (together second) (legs_in root second n tags left)).pairs
-  pub sequence : InSequence n tags after
+pub record Walks (tags left after : List ℕ) (r : PairTally) : Type 0 where
+  pub legs : (root : ℕ) (second : Bool) → legs_from root second tags after ≡ (walk (together second) (legs_from root second tags left)).legs
+  pub tally : (root : ℕ) (second : Bool) → r ≡ noted none (walk (together second) (legs_from root second tags left)).pairs
+  pub sequence : InSequence tags after

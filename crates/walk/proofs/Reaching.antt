@@ -7,7 +7,7 @@ use Prim.Native.Nat.{ℕ, ◌≤◌, ◌<◌, ◌+◌}
 use native.Mathlib.Omega.{arith}
 use lib.Dec.{eqb}
 use lib.IntN.{ℤ, pos, nat_abs}
-use lib.ListN.{get_or}
+use lib.ListN.{length, get_or}
 use mir.Syntax.{w64}
 use mir.Val.{to_z, of_z}
 use Rattle.rules.specs.OpenContracts.{sign, adjusted, shows_other}
@@ -20,64 +20,64 @@ use Rattle.tagged.proofs.Figures.{count_at, figure_fits, begins, closes, unsearc
 use Rattle.matching.proofs.Meeting.{sign_read}
 
 -- what the leg has found: `left` and `s` as it is reached, `after` and `r` after its search, if it made one
-pub record Found (tags left after : List ℕ) (n i : ℕ) (s r : Step) : Type 0 where
-  pub reaches : Reaches tags left after i n (tally_of s) (tally_of r)
-  pub figure : Counts tags after n i (i + 1) r.figure
+pub record Found (tags left after : List ℕ) (i : ℕ) (s r : Step) : Type 0 where
+  pub reaches : Reaches tags left after i (tally_of s) (tally_of r)
+  pub figure : Counts tags after i (i + 1) r.figure
   pub group : r.group ≡ group_of (get_or tags i 0)
 
-small : (tags left : List ℕ) (n i j : ℕ) (f : ℤ) → InSequence n tags left → Counts tags left n i j f → nat_abs f ≤ 160000
-small tags left n i j f q counts = rw (counts 0 false) (figure_fits tags left n q false 0 (series_in tags false i) j)
+small : (tags left : List ℕ) (i j : ℕ) (f : ℤ) → InSequence tags left → Counts tags left i j f → nat_abs f ≤ 160000
+small tags left i j f q counts = rw (counts 0 false) (figure_fits tags left q false 0 (series_in tags false i) j)
 
-read : (tags left : List ℕ) (n i j : ℕ) (f : ℤ) → InSequence n tags left → Counts tags left n i j f → to_z w64 (of_z w64 f) ≡ f
-read tags left n i j f q counts = held f (omega (arith, small tags left n i j f q counts))
+read : (tags left : List ℕ) (i j : ℕ) (f : ℤ) → InSequence tags left → Counts tags left i j f → to_z w64 (of_z w64 f) ≡ f
+read tags left i j f q counts = held f (omega (arith, small tags left i j f q counts))
 
-module _ {tags left : List ℕ} {n : ℕ} (q : InSequence n tags left) (i : ℕ) (h : i < n) where
+module _ {tags left : List ℕ} (q : InSequence tags left) (i : ℕ) (h : i < length tags) where
   abbrev tx : ℕ
   tx = get_or tags i 0
 
-  module _ {s : Step} (stands : Stands tags left n (i + 1) s) {g : ℕ} (group_is : g ≡ group_of tx) {f : ℤ} (begun : f ≡ cond (eqb s.group g) (to_z w64 (of_z w64 s.figure)) (pos 0)) where
-    first : Counts tags left n i (i + 1) f
+  module _ {s : Step} (stands : Stands tags left (i + 1) s) {g : ℕ} (group_is : g ≡ group_of tx) {f : ℤ} (begun : f ≡ cond (eqb s.group g) (to_z w64 (of_z w64 s.figure)) (pos 0)) where
+    first : Counts tags left i (i + 1) f
     first root second =
         begun
-        ∙ ap₂ (λ (z : ℤ) (k : ℕ). cond (eqb s.group k) z (pos 0)) (read tags left n (i + 1) (i + 1) s.figure q stands.figure) group_is
-        ∙ begins tags left n q second root i s h stands
+        ∙ ap₂ (λ (z : ℤ) (k : ℕ). cond (eqb s.group k) z (pos 0)) (read tags left (i + 1) (i + 1) s.figure q stands.figure) group_is
+        ∙ begins tags left q second root i s h stands
 
     first_read : to_z w64 (of_z w64 f) ≡ f
-    first_read = read tags left n i (i + 1) f q first
+    first_read = read tags left i (i + 1) f q first
 
-    pub kept : Counts tags left n i (i + 1) (to_z w64 (of_z w64 f))
+    pub kept : Counts tags left i (i + 1) (to_z w64 (of_z w64 f))
     kept root second = first_read ∙ first root second
 
     -- the leg's test
     module _ {sgn : ℤ} (sign_is : sgn ≡ sign (is_bought tx)) where
       pub test_small : (nat_abs (to_z w64 (of_z w64 f)) ≤ 1000000) × (nat_abs (to_z w64 (of_z w64 sgn)) ≤ 1)
-      test_small = (rw first_read (omega (arith, small tags left n i (i + 1) f q first)), rw (sign_read (is_bought tx) sgn sign_is) (sign_small (is_bought tx)))
+      test_small = (rw first_read (omega (arith, small tags left i (i + 1) f q first)), rw (sign_read (is_bought tx) sgn sign_is) (sign_small (is_bought tx)))
 
       module _ {shows : Bool} (shows_is : shows ≡ shows_other (to_z w64 (of_z w64 f)) (to_z w64 (of_z w64 sgn))) where
         pub shown : shows_other (to_z w64 (of_z w64 f)) (sign (is_bought tx)) ≡ shows
         shown = ap (shows_other (to_z w64 (of_z w64 f))) (sym (sign_read (is_bought tx) sgn sign_is)) ∙ sym shows_is
 
-        pub found_none : OneSideOpen tags left n i → shows ≡ false → Found tags left left n i s (record { debits = s.debits; credits = s.credits; group = g; figure = to_z w64 (of_z w64 f) })
-        found_none one e = record { reaches = unsearched tags left n q i h (to_z w64 (of_z w64 f)) kept one (shown ∙ e) (tally_of s); figure = kept; group = group_is }
+        pub found_none : OneSideOpen tags left i → shows ≡ false → Found tags left left i s (record { debits = s.debits; credits = s.credits; group = g; figure = to_z w64 (of_z w64 f) })
+        found_none one e = record { reaches = unsearched tags left q i h (to_z w64 (of_z w64 f)) kept one (shown ∙ e) (tally_of s); figure = kept; group = group_is }
 
   -- what the leg leaves open
-  module _ {after : List ℕ} {s r : Step} (found : Found tags left after n i s r) {sgn : ℤ} (sign_is : sgn ≡ sign (is_bought tx)) where
+  module _ {after : List ℕ} {s r : Step} (found : Found tags left after i s r) {sgn : ℤ} (sign_is : sgn ≡ sign (is_bought tx)) where
     figure_read : to_z w64 (of_z w64 r.figure) ≡ r.figure
-    figure_read = read tags after n i (i + 1) r.figure found.reaches.sequence found.figure
+    figure_read = read tags after i (i + 1) r.figure found.reaches.sequence found.figure
 
     pub rest_small : (nat_abs (to_z w64 (of_z w64 r.figure)) ≤ 1000000) × (nat_abs (to_z w64 (of_z w64 sgn)) ≤ 1) × (get_or after i 0 ≤ 1000000)
     rest_small = (
-      rw figure_read (omega (arith, small tags after n i (i + 1) r.figure found.reaches.sequence found.figure)),
+      rw figure_read (omega (arith, small tags after i (i + 1) r.figure found.reaches.sequence found.figure)),
       rw (sign_read (is_bought tx) sgn sign_is) (sign_small (is_bought tx)),
-      omega (arith, count_at tags after n found.reaches.sequence i h),
+      omega (arith, count_at tags after found.reaches.sequence i h),
     )
 
     pub leaves : {f : ℤ} → f ≡ adjusted (to_z w64 (of_z w64 r.figure)) (to_z w64 (of_z w64 sgn)) (get_or after i 0)
-        → Stands tags after n i (record { debits = r.debits; credits = r.credits; group = r.group; figure = to_z w64 (of_z w64 f) })
-    leaves {f} e = record { figure = λ root second. read tags after n i i f found.reaches.sequence opened ∙ opened root second; group = λ l. found.group }
+        → Stands tags after i (record { debits = r.debits; credits = r.credits; group = r.group; figure = to_z w64 (of_z w64 f) })
+    leaves {f} e = record { figure = λ root second. read tags after i i f found.reaches.sequence opened ∙ opened root second; group = λ l. found.group }
       where
-        opened : Counts tags after n i i f
+        opened : Counts tags after i i f
         opened root second =
             e
             ∙ ap₂ (λ (z k : ℤ). adjusted z k (get_or after i 0)) (figure_read ∙ found.figure root second) (sign_read (is_bought tx) sgn sign_is)
-            ∙ closes tags after n found.reaches.sequence second root i h
+            ∙ closes tags after found.reaches.sequence second root i h

@@ -28,30 +28,30 @@ use Rattle.tagged.proofs.Numbered.{tag_at_small, inner, inner_turn, inner_skip, 
 use Rattle.tagged.proofs.Figures.{sequence_set, count_at, put_before, figure_fits, inside, meets, passed, met}
 
 -- what the loop keeps: `left₀` and `s` as the search began, `left` and `r` now, with `x` contracts left and `j` next
-pub record Turned (tags left₀ left : List ℕ) (n i : ℕ) (s r : Step) (x j : ℕ) : Type 0 where
-  pub same : (root : ℕ) (second : Bool) → inner tags n second root left (tally_of r) (get_or tags i 0) x j ≡ inner tags n second root left₀ (tally_of s) (get_or tags i 0) (get_or left₀ i 0) (i + 1)
-  pub searching : (root : ℕ) (second : Bool) → Searching (together second) (leg_at root second (get_or tags i 0) x) (legs_from_on root tags left n second (i + 1)) (legs_from_on root tags left n second j) r.figure
-  pub sequence : InSequence n tags left
+pub record Turned (tags left₀ left : List ℕ) (i : ℕ) (s r : Step) (x j : ℕ) : Type 0 where
+  pub same : (root : ℕ) (second : Bool) → inner tags second root left (tally_of r) (get_or tags i 0) x j ≡ inner tags second root left₀ (tally_of s) (get_or tags i 0) (get_or left₀ i 0) (i + 1)
+  pub searching : (root : ℕ) (second : Bool) → Searching (together second) (leg_at root second (get_or tags i 0) x) (legs_from_on root tags left second (i + 1)) (legs_from_on root tags left second j) r.figure
+  pub sequence : InSequence tags left
   pub past : i < j
-  pub within : j ≤ n
+  pub within : j ≤ length tags
   pub few : x ≤ 10000
   pub pairs : r.debits + r.credits + i < s.debits + s.credits + j
   pub group : r.group ≡ s.group
 
-pub begins : (tags left : List ℕ) (n i : ℕ) (s : Step) → InSequence n tags left → i < n → Counts tags left n i (i + 1) s.figure → OneSideOpen tags left n i
-    → Turned tags left left n i s s (get_or left i 0) (i + 1)
-begins tags left n i s q h counts one = record {
+pub begins : (tags left : List ℕ) (i : ℕ) (s : Step) → InSequence tags left → i < length tags → Counts tags left i (i + 1) s.figure → OneSideOpen tags left i
+    → Turned tags left left i s s (get_or left i 0) (i + 1)
+begins tags left i s q h counts one = record {
   same = λ root second. refl;
-  searching = λ root second. searching.start (together second) (leg_at root second (get_or tags i 0) (get_or left i 0)) (legs_from_on root tags left n second (i + 1)) s.figure (counts root second) (one root second);
+  searching = λ root second. searching.start (together second) (leg_at root second (get_or tags i 0) (get_or left i 0)) (legs_from_on root tags left second (i + 1)) s.figure (counts root second) (one root second);
   sequence = q;
   past = omega arith;
   within = omega arith;
-  few = count_at tags left n q i h;
+  few = count_at tags left q i h;
   pairs = omega arith;
   group = refl;
 }
 
-module _ {tags left₀ left : List ℕ} {n i : ℕ} {s r : Step} {x j : ℕ} (h : i < n) (v : Turned tags left₀ left n i s r x j) where
+module _ {tags left₀ left : List ℕ} {i : ℕ} {s r : Step} {x j : ℕ} (h : i < length tags) (v : Turned tags left₀ left i s r x j) where
   abbrev tx : ℕ
   tx = get_or tags i 0
 
@@ -59,7 +59,7 @@ module _ {tags left₀ left : List ℕ} {n i : ℕ} {s r : Step} {x j : ℕ} (h 
   y = get_or left j 0
 
   figure_small : nat_abs r.figure ≤ 160000
-  figure_small = rw (v.searching 0 false).figure (figure_fits tags left n v.sequence false 0 (series_in tags false i) (i + 1))
+  figure_small = rw (v.searching 0 false).figure (figure_fits tags left v.sequence false 0 (series_in tags false i) (i + 1))
 
   figure_read : to_z w64 (of_z w64 r.figure) ≡ r.figure
   figure_read = held r.figure (omega (arith, figure_small))
@@ -73,18 +73,18 @@ module _ {tags left₀ left : List ℕ} {n i : ℕ} {s r : Step} {x j : ℕ} (h 
     shown e = sym (e ∙ ap₂ (λ (z k : ℤ). shows_other z k) figure_read (sign_read (is_bought tx) sgn sign_is))
 
   -- no leg is behind: the leg has nothing left, or the figure does not show the other side
-  pub none_behind : n ≤ j → (x ≡ 0) ⊎ (shows_other r.figure (sign (is_bought tx)) ≡ false)
+  pub none_behind : length tags ≤ j → (x ≡ 0) ⊎ (shows_other r.figure (sign (is_bought tx)) ≡ false)
   none_behind l = go (eqb x 0) refl (shows_other r.figure (sign (is_bought tx))) refl
     where
       go : (b : Bool) → eqb x 0 ≡ b → (shows : Bool) → shows_other r.figure (sign (is_bought tx)) ≡ shows → (x ≡ 0) ⊎ (shows_other r.figure (sign (is_bought tx)) ≡ false)
       go true e shows f = inl (eqb-true x 0 e)
       go false e false f = inr f
-      go false e true f = absurd (omega (arith, inside tags left n v.sequence false 0 i h x j r.figure (v.searching 0 false) (pos_of_ne-zero (eqb-false x 0 e)) f v.within))
+      go false e true f = absurd (omega (arith, inside tags left v.sequence false 0 i h x j r.figure (v.searching 0 false) (pos_of_ne-zero (eqb-false x 0 e)) f v.within))
 
   -- the leg that is met
-  module _ (met_within : j < n) (some : 0 < x) (shown : shows_other r.figure (sign (is_bought tx)) ≡ true) where
+  module _ (met_within : j < length tags) (some : 0 < x) (shown : shows_other r.figure (sign (is_bought tx)) ≡ true) where
     all_met : matched_at tx x (get_or tags j 0) y ≡ min x y
-    all_met = meets tags left n v.sequence false 0 i h x j r.figure (v.searching 0 false) some shown v.past met_within
+    all_met = meets tags left v.sequence false 0 i h x j r.figure (v.searching 0 false) some shown v.past met_within
 
     module _ {m : ℕ} (smaller : m ≡ min x y) where
       matched : m ≡ matched_at tx x (get_or tags j 0) y
@@ -93,17 +93,17 @@ module _ {tags left₀ left : List ℕ} {n i : ℕ} {s r : Step} {x j : ℕ} (h 
       pub again : matched_at tx m (get_or tags j 0) y ≡ m
       again = matched_again tx x (get_or tags j 0) y m matched
 
-      pub turned : {after : List ℕ} {z : Step} → Meets tags left after i j n m r z → Turned tags left₀ after n i s z (x - m) (j + 1)
+      pub turned : {after : List ℕ} {z : Step} → Meets tags left after i j m r z → Turned tags left₀ after i s z (x - m) (j + 1)
       turned {after} {z} e =
-          let small = tag_at_small tags n v.sequence.valid i h in
-          let few : y - m ≤ 10000 = omega (arith, count_at tags left n v.sequence j met_within) in
+          let small = tag_at_small tags v.sequence.small i h in
+          let few : y - m ≤ 10000 = omega (arith, count_at tags left v.sequence j met_within) in
           let more = note_few (tally_of r) tx (get_or tags j 0) m in record {
             same = λ root second.
                 rw e.rest
-                (inner_turn tags n v.sequence.valid second root left (tally_of r) (tally_of z) tx x j m v.sequence.full small met_within matched e.tally
+                (inner_turn tags v.sequence.small second root left (tally_of r) (tally_of z) tx x j m v.sequence.long small met_within matched e.tally
                 ∙ v.same root second);
-            searching = λ root second. rw e.rest (met tags left n v.sequence second root i j x m v.past met_within matched r.figure z.figure (v.searching root second) (rw e.rest at (e.figure root second)));
-            sequence = rw e.rest (sequence_set tags left n v.sequence j (y - m) met_within few);
+            searching = λ root second. rw e.rest (met tags left v.sequence second root i j x m v.past met_within matched r.figure z.figure (v.searching root second) (rw e.rest at (e.figure root second)));
+            sequence = rw e.rest (sequence_set tags left v.sequence j (y - m) few);
             past = omega (arith, v.past);
             within = omega (arith, met_within);
             few = omega (arith, v.few);
@@ -112,12 +112,12 @@ module _ {tags left₀ left : List ℕ} {n i : ℕ} {s r : Step} {x j : ℕ} (h 
           }
 
       -- the leg has nothing left
-      pub skipped : m ≡ 0 → Turned tags left₀ left n i s r x (j + 1)
+      pub skipped : m ≡ 0 → Turned tags left₀ left i s r x (j + 1)
       skipped e =
           let none : y ≡ 0 = omega arith in
-          let small = tag_at_small tags n v.sequence.valid i h in record {
-            same = λ root second. inner_skip tags n v.sequence.valid second root left (tally_of r) tx x j v.sequence.full small met_within (sym matched ∙ e) ∙ v.same root second;
-            searching = λ root second. passed tags left n v.sequence second root i h x j r.figure (v.searching root second) met_within none;
+          let small = tag_at_small tags v.sequence.small i h in record {
+            same = λ root second. inner_skip tags v.sequence.small second root left (tally_of r) tx x j v.sequence.long small met_within (sym matched ∙ e) ∙ v.same root second;
+            searching = λ root second. passed tags left v.sequence second root i h x j r.figure (v.searching root second) met_within none;
             sequence = v.sequence;
             past = omega (arith, v.past);
             within = omega (arith, met_within);
@@ -127,15 +127,15 @@ module _ {tags left₀ left : List ℕ} {n i : ℕ} {s r : Step} {x j : ℕ} (h 
           }
 
   -- the leg has nothing left, or the figure shows nothing more of the other side
-  module _ (full₀ : length left₀ ≡ 16) (ended : (x ≡ 0) ⊎ (shows_other r.figure (sign (is_bought tx)) ≡ false)) where
-    pub reaches : Reaches tags left₀ (set left i x) i n (tally_of s) (tally_of r)
+  module _ (full₀ : length left₀ ≡ length tags) (ended : (x ≡ 0) ⊎ (shows_other r.figure (sign (is_bought tx)) ≡ false)) where
+    pub reaches : Reaches tags left₀ (set left i x) i (tally_of s) (tally_of r)
     reaches =
         let q = v.sequence in record {
-          legs = λ root second. inner_legs tags n q.valid second root left₀ left full₀ q.full (tally_of s) (tally_of r) x i j h v.within (searching.stop (together second) (v.searching root second) ended) (v.same root second);
-          tally = λ root second. inner_tally tags n q.valid second root left₀ left full₀ q.full (tally_of s) (tally_of r) x i j h v.within (searching.stop (together second) (v.searching root second) ended) (v.same root second);
-          few = omega (arith, v.pairs, v.within, q.valid.few);
-          sequence = sequence_set tags left n q i x h v.few;
+          legs = λ root second. inner_legs tags q.small second root left₀ left full₀ (tally_of s) (tally_of r) x i j h (searching.stop (together second) (v.searching root second) ended) (v.same root second);
+          tally = λ root second. inner_tally tags q.small second root left₀ left full₀ (tally_of s) (tally_of r) x i j h (searching.stop (together second) (v.searching root second) ended) (v.same root second);
+          few = omega (arith, v.pairs, v.within, q.few);
+          sequence = sequence_set tags left q i x v.few;
         }
 
-  pub counts : Counts tags (set left i x) n i (i + 1) r.figure
-  counts root second = (v.searching root second).figure ∙ ap (open_contracts (together second) (series_in tags second i)) (sym (put_before tags left n v.sequence second root i x h))
+  pub counts : Counts tags (set left i x) i (i + 1) r.figure
+  counts root second = (v.searching root second).figure ∙ ap (open_contracts (together second) (series_in tags second i)) (sym (put_before tags left v.sequence second root i x h))

@@ -2,7 +2,7 @@
 // figure says what is open in the group being walked, bought less sold: it leads the search for a match.
 #![tactic(auto)]
 
-ghost use Rattle.std.specs.Prelude.{◌≡◌, true, ◌+◌, ◌<◌, get_or};
+ghost use Rattle.std.specs.Prelude.{◌≡◌, true, ◌+◌, ◌<◌, length, get_or};
 ghost use Rattle.rules.specs.OpenContracts.{sign, shows_other};
 ghost use Rattle.keys.specs.Tags.{is_bought};
 ghost use Rattle.tagged.specs.Tags.{tally_of, InSequence, Counts, OneSideOpen, Stands, Reaches, Walks};
@@ -14,24 +14,24 @@ use tagged::{PairTally, Step};
 
 // The leg at i is matched with those behind it, while it has contracts left and the figure shows the other side: the
 // next of them is then of its group, and what that has open is of the other side.
-fn search(tags: &[u64; 16], left: &mut [u64; 16], i: usize, n: usize, s: Step) -> Step
-    requires in_sequence { InSequence n tags.now left.old × (i < n) × (s.debits + s.credits < 900) }
-    requires counts { Counts tags.now left.old n i (i + 1) s.figure × OneSideOpen tags.now left.old n i
+fn search(tags: &[u64], left: &mut [u64], i: usize, s: Step) -> Step
+    requires in_sequence { InSequence tags.now left.old × (i < length tags.now) × (s.debits + s.credits < 900) }
+    requires counts { Counts tags.now left.old i (i + 1) s.figure × OneSideOpen tags.now left.old i
         × (shows_other s.figure (sign (is_bought (get_or tags.now i 0))) ≡ true) }
-    ensures reaches { Reaches tags.now left.old left.new i n (tally_of s) (tally_of result) }
-    ensures counts_after { Counts tags.now left.new n i (i + 1) result.figure × (result.group ≡ s.group) }
+    ensures reaches { Reaches tags.now left.old left.new i (tally_of s) (tally_of result) }
+    ensures counts_after { Counts tags.now left.new i (i + 1) result.figure × (result.group ≡ s.group) }
 {
     let sign = sign_of(tags[i]);
     let mut x = left[i];
     let mut r = s;
-    for at in i + 1..n {
+    for at in i + 1..tags.len() {
         if x == 0 || !shows_other(r.figure, sign) {
             break;
         }
         let m = x.min(left[at]);
         // A leg of the group that has nothing left is passed.
         if m != 0 {
-            r = meet(tags, left, i, at, n, m, r);
+            r = meet(tags, left, i, at, m, r);
             x -= m;
         }
     }
@@ -40,11 +40,11 @@ fn search(tags: &[u64; 16], left: &mut [u64; 16], i: usize, n: usize, s: Step) -
 }
 
 // The leg at i is reached, after all that stand behind it. What it has left is open from then on.
-fn reach(tags: &[u64; 16], left: &mut [u64; 16], i: usize, n: usize, s: Step) -> Step
-    requires in_sequence { InSequence n tags.now left.old × (i < n) × (s.debits + s.credits < 900) }
-    requires stands { Stands tags.now left.old n (i + 1) s × OneSideOpen tags.now left.old n i }
-    ensures reaches { Reaches tags.now left.old left.new i n (tally_of s) (tally_of result) }
-    ensures stands_after { Stands tags.now left.new n i result }
+fn reach(tags: &[u64], left: &mut [u64], i: usize, s: Step) -> Step
+    requires in_sequence { InSequence tags.now left.old × (i < length tags.now) × (s.debits + s.credits < 900) }
+    requires stands { Stands tags.now left.old (i + 1) s × OneSideOpen tags.now left.old i }
+    ensures reaches { Reaches tags.now left.old left.new i (tally_of s) (tally_of result) }
+    ensures stands_after { Stands tags.now left.new i result }
 {
     let tx = tags[i];
     let sign = sign_of(tx);
@@ -56,7 +56,7 @@ fn reach(tags: &[u64; 16], left: &mut [u64; 16], i: usize, n: usize, s: Step) ->
         ..s
     };
     if shows_other(f, sign) {
-        r = search(tags, left, i, n, r);
+        r = search(tags, left, i, r);
     }
     let rest = left[i];
     let open = r.figure;
@@ -64,10 +64,10 @@ fn reach(tags: &[u64; 16], left: &mut [u64; 16], i: usize, n: usize, s: Step) ->
     r
 }
 
-// The walk over the first n legs: from the last to the first.
-pub fn walk(tags: &[u64; 16], left: &mut [u64; 16], n: usize) -> PairTally
-    requires { InSequence n tags.now left.old }
-    ensures { Walks tags.now left.old left.new n result }
+// The walk over the legs: from the last to the first.
+pub fn walk(tags: &[u64], left: &mut [u64]) -> PairTally
+    requires { InSequence tags.now left.old }
+    ensures { Walks tags.now left.old left.new result }
 {
     let mut s = Step {
         debits: 0,
@@ -75,8 +75,8 @@ pub fn walk(tags: &[u64; 16], left: &mut [u64; 16], n: usize) -> PairTally
         group: 0,
         figure: 0,
     };
-    for i in (0..n).rev() {
-        s = reach(tags, left, i, n, s);
+    for i in (0..tags.len()).rev() {
+        s = reach(tags, left, i, s);
     }
     PairTally {
         pairs: s.debits + s.credits,

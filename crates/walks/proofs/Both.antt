@@ -4,30 +4,32 @@ use mathlib.Core.List.{List, [], ◌++◌}
 use mathlib.Core.Bool.{Bool, true, false, not, ◌&&◌, ◌||◌}
 use Prim.Native.Nat.{ℕ, ◌≤◌}
 use native.Mathlib.Omega.{arith}
-use lib.ListN.{length, length-append, length-take}
+use lib.ListN.{length, length-append}
 use Rattle.rules.specs.declared.Leg.{Leg}
 use Rattle.rules.specs.Pairing.{Walked, walk, one_expiry, one_strike, by_expiry, both_walks}
 use Rattle.rules.proofs.Tests.{not_eq}
 use Rattle.laws.proofs.Pairings.{pairing_fewer}
-use Rattle.keys.specs.Tags.{legs_from, legs_in}
+use Rattle.keys.specs.Tags.{leg_at, legs_from}
+use Rattle.arranging.proofs.Zip.{zip_length}
 use Rattle.tagged.specs.declared.PairTally.{PairTally}
-use Rattle.tagged.specs.Tags.{none, noted, Walks}
+use Rattle.tagged.specs.Tags.{none, noted, InSequence, Walks}
 use Rattle.tagged.proofs.Walking.{noted_append}
-use Rattle.loners.specs.Tallies.{all_alone, joined_tallies, tally_class, Loners}
+use Rattle.loners.specs.Tallies.{all_alone, alone_in, joined_tallies, tally_class}
+use Rattle.loners.proofs.Alone.{alone_legs}
 use Rattle.walks.specs.Both.{tallied, BothWalks}
 use Rattle.walks.proofs.Tallied.{pairs_said, tallied_said, joined_walk, class_tallied}
 use Rattle.walks.proofs.Skip.{skipped}
 
-module _ (root : ℕ) {n : ℕ} {tags left after : List ℕ} {a : PairTally} (fits : n ≤ 16) (wa : Walks tags left after n a) where
+module _ (root : ℕ) {tags left after : List ℕ} {a : PairTally} (q : InSequence tags left) (wa : Walks tags left after a) where
   abbrev ls : List Leg
-  ls = legs_in root false n tags left
+  ls = legs_from root false tags left
 
   abbrev first : Walked
   first = walk one_expiry ls
 
   -- what the first walk leaves
   abbrev rest : List Leg
-  rest = legs_in root false n tags after
+  rest = legs_from root false tags after
 
   abbrev again : Walked
   again = walk one_strike (by_expiry rest)
@@ -41,7 +43,7 @@ module _ (root : ℕ) {n : ℕ} {tags left after : List ℕ} {a : PairTally} (fi
   twice = rw (wa.legs root false)
 
   few : (european : Bool) (w : Walked) → both_walks european ls ≡ w → length w.pairs ≤ 16
-  few european w e = omega (arith, rw e at (pairing_fewer european ls), length-take n (legs_from root false tags left))
+  few european w e = omega (arith, rw e at (pairing_fewer european ls), zip_length (leg_at root false) tags left (sym q.long), q.few)
 
   -- a tally of what both walks give says their number and class
   says : (european : Bool) (w : Walked) (r : PairTally) → both_walks european ls ≡ w → r ≡ tallied w → BothWalks european ls r.pairs (tally_class r)
@@ -60,7 +62,11 @@ module _ (root : ℕ) {n : ℕ} {tags left after : List ℕ} {a : PairTally} (fi
         says false _ r twice (e ∙ ap₂ joined_tallies (wa.tally root false) second ∙ joined_walk (noted none first.pairs) again ∙ sym append)
 
   -- the first walk alone: the second is left out, or matches nothing
-  pub one_walk : (european : Bool) (alone r : PairTally) → Loners none tags after n alone → european || not (alone.debit && alone.credit) ≡ true → r ≡ joined_tallies a alone
+  pub one_walk : (european : Bool) (alone r : PairTally) → alone ≡ alone_in none tags after → european || not (alone.debit && alone.credit) ≡ true → r ≡ joined_tallies a alone
       → BothWalks european ls r.pairs (tally_class r)
-  one_walk true alone r lo h e = says true _ r once (e ∙ ap₂ joined_tallies (wa.tally root false) (lo.legs root false) ∙ joined_walk (noted none first.pairs) (record { pairs = []; legs = rest }))
-  one_walk false alone r lo h e = let l = lo.legs root false in two_walks alone (l ∙ skipped rest (rw l at (not_eq (alone.debit && alone.credit) h))) r e
+  one_walk true alone r l h e =
+      let k = l ∙ alone_legs root false none tags after in
+      says true _ r once (e ∙ ap₂ joined_tallies (wa.tally root false) k ∙ joined_walk (noted none first.pairs) (record { pairs = []; legs = rest }))
+  one_walk false alone r l h e =
+      let k = l ∙ alone_legs root false none tags after in
+      two_walks alone (k ∙ skipped rest (rw k at (not_eq (alone.debit && alone.credit) h))) r e

@@ -5,9 +5,9 @@ use mathlib.Core.Bool.{Bool, true, false, cond}
 use Prim.Native.Nat.{ℕ, ◌-◌, ◌/◌, ◌%◌, ◌≤◌, ◌<◌}
 use native.Mathlib.Omega.{arith}
 use lib.ListN.{length, take}
-use lib.Seq.{length-take-le}
 use lib.Dec.{eqb}
 use borrow.Author.Tests.{eqb-true, eqb-false}
+use Rattle.std.proofs.lemmas.List.{take_all}
 use Rattle.rules.specs.declared.Leg.{Leg}
 use Rattle.rules.specs.Lists.{All}
 use Rattle.rules.specs.Pairing.{digit, one_strike, by_expiry, walk}
@@ -15,14 +15,15 @@ use Rattle.rules.specs.Valid.{InRange}
 use Rattle.laws.proofs.Sorting.{all_perm, perm_sym, map_perm, sort_is_perm}
 use Rattle.sorting.specs.Keys.{sort_keys, with_places, EachTwo}
 use Rattle.sorting.proofs.Laws.{each_two_map, each_two_both, each_two_with}
-use Rattle.keys.specs.Tags.{packed, key_of, series_at, tag_of, leg_at, legs_from, legs_in, second_tag, Tagged, Arranged}
+use Rattle.keys.specs.Tags.{packed, key_of, series_at, tag_of, leg_at, legs_from, second_tag, Arranged}
 use Rattle.keys.proofs.Keys.{side_says}
 use Rattle.arranging.proofs.Zip.{zip_length, zip_take}
 use Rattle.arranging.proofs.Back.{key_tells, tag_half}
-use Rattle.arranging.proofs.Arranging.{arranged_legs, arranged_tagged, arranged_rising, arranged_sizes}
+use Rattle.arranging.proofs.Arranging.{arranged_legs, arranged_small, arranged_rising, arranged_sizes}
 use Rattle.tagged.specs.declared.PairTally.{PairTally}
 use Rattle.tagged.specs.Tags.{InSequence, Walks}
-use Rattle.loners.specs.Tallies.{all_alone, Loners}
+use Rattle.loners.specs.Tallies.{all_alone, alone_in}
+use Rattle.loners.proofs.Alone.{alone_legs}
 use Rattle.walks.specs.Both.{tallied}
 
 -- a key says a series in range, and the series says the key
@@ -60,36 +61,31 @@ legs_say root (t ∷ ts) (n ∷ ns) h k =
       roots = (refl, r.roots);
     }
 
-module _ {n : ℕ} {tags left sorted : List ℕ} (q : InSequence n tags left)
-    (order : sorted ≡ sort_keys (with_places 0 (map second_tag (take n tags))))
-    (seconds rest : List ℕ)
-    (arranged : Arranged sorted left (take n seconds) (take n rest))
-    (full_seconds : length seconds ≡ 16)
-    (full_rest : length rest ≡ 16)
+-- `sorted` are the places of `tags` in the second walk's sequence: arranged, with contracts `left` of which `sizes` are the first, they are `seconds` and `rest`
+module _ {tags left sorted sizes seconds rest : List ℕ} (q : InSequence tags left)
+    (order : sorted ≡ sort_keys (with_places 0 (map second_tag tags)))
+    (counts_are : take (length tags) sizes ≡ left)
+    (arranged : Arranged sorted sizes seconds rest)
+    (as_many : length seconds ≡ length tags)
+    (as_many_left : length rest ≡ length tags)
     (root : ℕ) where
-  tg : Tagged n tags
-  tg = q.valid
-
-  apart : EachTwo (λ a b. a / 2 ≡ b / 2 → ⊥) (take n tags)
-  apart = each_two_both (λ a b. a / 2 < b / 2) (λ a b. a / 2 < b / 2) _ (λ a b h k e. absurd (omega arith)) (take n tags) q.rising q.rising
+  apart : EachTwo (λ a b. a / 2 ≡ b / 2 → ⊥) tags
+  apart = each_two_both (λ a b. a / 2 < b / 2) (λ a b. a / 2 < b / 2) _ (λ a b h k e. absurd (omega arith)) tags q.rising q.rising
 
   abbrev ls : List Leg
-  ls = legs_from root false (take n tags) (take n left)
+  ls = legs_from root false tags left
 
-  long : length (take n tags) ≡ n
-  long = length-take-le n tags (omega (arith, tg.few, tg.full))
-
-  as_long : length (take n tags) ≡ length (take n left)
-  as_long = long ∙ sym (length-take-le n left (omega (arith, tg.few, q.full)))
+  abbrev n : ℕ
+  n = length tags
 
   many : length ls ≡ n
-  many = zip_length (leg_at root false) (take n tags) (take n left) as_long ∙ long
+  many = zip_length (leg_at root false) tags left (sym q.long)
 
   short : length ls ≤ 16
-  short = omega (arith, many, tg.few)
+  short = omega (arith, many, q.few)
 
-  say : Legs root (take n tags) (take n left) ls
-  say = legs_say root (take n tags) (take n left) as_long tg.small
+  say : Legs root tags left ls
+  say = legs_say root tags left (sym q.long) q.small
 
   -- keys that differ in the first walk differ in the second
   keys_apart : EachTwo (λ x y. key_of true x.series ≡ key_of true y.series → ⊥) ls
@@ -101,24 +97,42 @@ module _ {n : ℕ} {tags left sorted : List ℕ} (q : InSequence n tags left)
   numbers : sorted ≡ sort_keys (with_places 0 (map (tag_of true) ls))
   numbers = order ∙ ap (λ (ks : List ℕ). sort_keys (with_places 0 ks)) say.seconds
 
+  sizes_say : take n sizes ≡ map (λ x. x.size) ls
+  sizes_say = counts_are ∙ say.sizes
+
+  all_seconds : take n seconds ≡ seconds
+  all_seconds = take_all n seconds (omega (arith, as_many))
+
+  all_rest : take n rest ≡ rest
+  all_rest = take_all n rest (omega (arith, as_many_left))
+
+  firsts : Arranged sorted sizes (take n seconds) (take n rest)
+  firsts = rw (all_seconds, all_rest) arranged
+
   counted : All (λ s. s ≤ 10000) (map (λ x. x.size) (by_expiry ls))
   unfolding by_expiry
   counted = all_perm (λ s. s ≤ 10000) (perm_sym (map_perm (λ x. x.size) (sort_is_perm _ ls))) (rw say.sizes at q.counts)
 
-  pub seconds_sequence : InSequence n seconds rest
+  pub seconds_sequence : InSequence seconds rest
   seconds_sequence =
       record {
-        valid = arranged_tagged true ls short say.ranges keys_apart n many sorted left seconds rest numbers say.sizes arranged full_seconds;
-        rising = arranged_rising true ls short say.ranges keys_apart n many sorted left seconds rest numbers say.sizes arranged;
-        full = full_rest;
-        counts = rw (arranged_sizes true ls short say.ranges keys_apart n many sorted left seconds rest numbers say.sizes arranged) counted;
+        few = omega (arith, as_many, q.few);
+        long = as_many_left ∙ sym as_many;
+        small = rw all_seconds at (arranged_small true ls short say.ranges keys_apart n many sorted sizes seconds rest numbers sizes_say firsts);
+        rising = rw all_seconds at (arranged_rising true ls short say.ranges keys_apart n many sorted sizes seconds rest numbers sizes_say firsts);
+        counts = rw (sym all_rest ∙ arranged_sizes true ls short say.ranges keys_apart n many sorted sizes seconds rest numbers sizes_say firsts) counted;
       }
 
-  in_sequence_lem : legs_in root true n seconds rest ≡ by_expiry (legs_in root false n tags left)
+  in_sequence_lem : legs_from root true seconds rest ≡ by_expiry ls
   in_sequence_lem =
-      arranged_legs true ls short say.ranges keys_apart n many sorted left seconds rest numbers say.sizes arranged root say.roots
-      ∙ ap by_expiry (sym (zip_take (leg_at root false) n tags left))
+      sym (ap₂ (legs_from root true) all_seconds all_rest)
+      ∙ sym (zip_take (leg_at root true) n seconds rest)
+      ∙ arranged_legs true ls short say.ranges keys_apart n many sorted sizes seconds rest numbers sizes_say firsts root say.roots
 
   -- the second walk and its loners
-  pub second_tallied : {after : List ℕ} {b r : PairTally} → Walks seconds rest after n b → Loners b seconds after n r → r ≡ tallied (walk one_strike (by_expiry (legs_in root false n tags left)))
-  second_tallied w lo = lo.legs root true ∙ ap₂ all_alone (w.tally root true) (w.legs root true) ∙ ap (λ (xs : List Leg). tallied (walk one_strike xs)) in_sequence_lem
+  pub second_tallied : {after : List ℕ} {b r : PairTally} → Walks seconds rest after b → r ≡ alone_in b seconds after → r ≡ tallied (walk one_strike (by_expiry ls))
+  second_tallied {after} {b} w e =
+      e
+      ∙ alone_legs root true b seconds after
+      ∙ ap₂ all_alone (w.tally root true) (w.legs root true)
+      ∙ ap (λ (xs : List Leg). tallied (walk one_strike xs)) in_sequence_lem

@@ -2,6 +2,7 @@
 use Rattle.std.proofs.Common.{◌≡◌, ◌≤◌, length, take, drop, ◌++◌, arith, sym, ◌∙◌}
 use Rattle.std.proofs.Math.Seq.{take_at, length-take-le}
 use Rattle.std.proofs.lemmas.Grind.{common_steps}
+use Rattle.arranging.proofs.Zip.{zip_take}
 use Rattle.classify.proofs.Laws.{legs_units, classed}
 use Rattle.classify.proofs.classify.Goals as goal
 
@@ -17,7 +18,7 @@ returns c =
     let w = c.both_walks-paired.ensures in
     λ root. record {
       counts = legs_units root a.n a.tags.now a.left.now _ v.valid.full v.full full (λ ls e. c.units.ensures ls e ∙ sym first);
-      class = classed _ _ (c.class_of-class.ensures root) (w root).class;
+      class = classed _ _ (c.class_of-class.ensures root) (rw (← zip_take) at (w root).class);
       shape = c.shape_of-shape.ensures root;
-      pairings = (w root).pairings;
+      pairings = rw (← zip_take) at (w root).pairings;
     }

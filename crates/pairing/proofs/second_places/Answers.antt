@@ -1,4 +1,5 @@
-use Rattle.std.proofs.Common.{ℕ, ◌∙◌, ap, arith, rules}
+use Rattle.std.proofs.Common.{◌≤◌, ℕ, ◌∙◌, length, ap, arith, rules}
+use Rattle.std.proofs.lemmas.List.{take_all}
 use Rattle.sorting.specs.Keys.{with_places}
 use Rattle.keys.specs.Tags.{second_tag, place_of}
 use Rattle.arranging.proofs.Places.{place_turn}
@@ -11,8 +12,10 @@ loop-i-init c = search rules
 pub loop-i-preserved : goal.loop-i-preserved
 loop-i-preserved c =
     let l = c.loop-i in
-    let tagged = c.requires.0 in record {
-      filled = place_turn 0 second_tag c.args.tags.now l.places l.i c.place_of.result (omega (arith, tagged.few, tagged.full)) (omega (arith, tagged.few)) (c.place_of.ensures ∙ ap (λ (k : ℕ). place_of k l.i) c.second_tag.ensures.0) l.invariant.filled;
-      len = search rules;
-      within = omega arith;
-    }
+    place_turn 0 second_tag c.args.tags.now l.places l.i c.place_of.result (omega arith) (omega arith) (c.place_of.ensures ∙ ap (λ (k : ℕ). place_of k l.i) c.second_tag.ensures.0) l.invariant
+
+pub returns : goal.returns
+returns c =
+    let all_tags : length c.args.tags.now ≤ c.loop-i.i = omega arith in
+    let all_places : length c.loop-i.places ≤ c.loop-i.i = omega arith in
+    rw (take_all c.loop-i.i c.loop-i.places all_places, take_all c.loop-i.i c.args.tags.now all_tags) at c.loop-i.invariant

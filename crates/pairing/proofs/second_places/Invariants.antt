@@ -1,12 +1,8 @@
-use Rattle.std.proofs.Common.{◌≡◌, ◌≤◌, length, take, map}
+use Rattle.std.proofs.Common.{◌≡◌, take, map}
 use Rattle.sorting.specs.Keys.{with_places}
 use Rattle.keys.specs.Tags.{second_tag}
 use Rattle.pairing.proofs.second_places.Given as goal
 
 -- The places passed hold their legs' tags of the second walk.
 abbrev pub invariant-loop-i : goal.invariant-loop-i
-invariant-loop-i l = record {
-  filled : take l.i l.places ≡ with_places 0 (map second_tag (take l.i l.tags));
-  len : length l.places ≡ 16;
-  within : l.i ≤ l.n;
-}
+invariant-loop-i l = take l.i l.places ≡ with_places 0 (map second_tag (take l.i l.tags))

@@ -1,4 +1,4 @@
-use Rattle.std.proofs.Common.{◌∙◌, ◌<◌, arith}
+use Rattle.std.proofs.Common.{◌∙◌, ◌<◌, length, arith}
 use Rattle.walk.proofs.Reaching.{Found, kept, test_small, shown, found_none, rest_small, leaves}
 use Rattle.walk.proofs.reach.Goals as goal
 use Rattle.walk.proofs.reach.Goals.{then-shows_other, else-shows_other}
@@ -10,7 +10,7 @@ shows_other-requires c =
 pub search-r-requires-clause-counts : goal.search-r-requires-clause-counts
 search-r-requires-clause-counts c =
     let q = c.requires.in_sequence.0 in
-    let h : c.args.i < c.args.n = omega arith in (
+    let h : c.args.i < length c.args.tags.now = omega arith in (
       kept q c.args.i h c.requires.stands.0 c.group_of-group.ensures c.begun-f.ensures,
       c.requires.stands.1,
       shown q c.args.i h c.requires.stands.0 c.group_of-group.ensures c.begun-f.ensures c.sign_of-sign.ensures c.shows_other.ensures ∙ c.if-shows_other.true,
@@ -20,8 +20,8 @@ pub adjusted-requires : goal.adjusted-requires
 adjusted-requires c =
     let a = c.args in
     let q = c.requires.in_sequence.0 in
-    let h : a.i < a.n = omega arith in
-    let found : Found a.tags.now a.left.now c.if-shows_other.left a.n a.i a.s c.if-shows_other.r = elim c.if-shows_other.branch [
+    let h : a.i < length a.tags.now = omega arith in
+    let found : Found a.tags.now a.left.now c.if-shows_other.left a.i a.s c.if-shows_other.r = elim c.if-shows_other.branch [
       | then-shows_other w ↦ let e = w.search-r.ensures in rw (w.left-is, w.r-is) (record { reaches = e.reaches; figure = e.counts_after.0; group = e.counts_after.1 ∙ c.group_of-group.ensures })
       | else-shows_other w ↦ rw (w.left-is, w.r-is) (found_none q a.i h c.requires.stands.0 c.group_of-group.ensures c.begun-f.ensures c.sign_of-sign.ensures c.shows_other.ensures c.requires.stands.1 w.if-shows_other.false)
     ] in
@@ -31,8 +31,8 @@ pub returns : goal.returns
 returns c =
     let a = c.args in
     let q = c.requires.in_sequence.0 in
-    let h : a.i < a.n = omega arith in
-    let found : Found a.tags.now a.left.now c.if-shows_other.left a.n a.i a.s c.if-shows_other.r = elim c.if-shows_other.branch [
+    let h : a.i < length a.tags.now = omega arith in
+    let found : Found a.tags.now a.left.now c.if-shows_other.left a.i a.s c.if-shows_other.r = elim c.if-shows_other.branch [
       | then-shows_other w ↦ let e = w.search-r.ensures in rw (w.left-is, w.r-is) (record { reaches = e.reaches; figure = e.counts_after.0; group = e.counts_after.1 ∙ c.group_of-group.ensures })
       | else-shows_other w ↦ rw (w.left-is, w.r-is) (found_none q a.i h c.requires.stands.0 c.group_of-group.ensures c.begun-f.ensures c.sign_of-sign.ensures c.shows_other.ensures c.requires.stands.1 w.if-shows_other.false)
     ] in

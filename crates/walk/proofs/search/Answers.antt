@@ -6,7 +6,7 @@ use Rattle.walk.proofs.search.Goals.{then-m-ne0, else-m-ne0, else-loop-at-test, 
 pub loop-at-init : goal.loop-at-init
 loop-at-init c =
     let a = c.args in
-    begins a.tags.now a.left.now a.n a.i a.s c.requires.in_sequence.0 (omega arith) c.requires.counts.0 c.requires.counts.1
+    begins a.tags.now a.left.now a.i a.s c.requires.in_sequence.0 (omega arith) c.requires.counts.0 c.requires.counts.1
 
 pub shows_other-requires : goal.shows_other-requires
 shows_other-requires c = test_small (omega arith) c.loop-at.invariant c.sign_of-sign.ensures
@@ -29,7 +29,7 @@ loop-at-preserved c =
 pub returns-clause-reaches : goal.returns-clause-reaches
 returns-clause-reaches c =
     let v = c.loop-at.invariant in
-    reaches (omega arith) v c.requires.in_sequence.0.full
+    reaches (omega arith) v c.requires.in_sequence.0.long
     (elim c.loop-at-test.branch [
       | else-loop-at-test w ↦ none_behind (omega arith) v (omega arith)
       | then-loop-at-test+then-x-eq0 w ↦ elim w.then-x-eq0.branch [

@@ -1,4 +1,4 @@
-use Rattle.std.proofs.Common.{◌≡◌, ◌+◌, ◌-◌, ◌<◌, refl, arith}
+use Rattle.std.proofs.Common.{◌≡◌, ◌+◌, ◌-◌, ◌<◌, length, refl, arith}
 use Rattle.tagged.specs.Tags.{tally_of}
 use Rattle.tagged.proofs.Numbered.{outer_start, outer_turn}
 use Rattle.tagged.proofs.Figures.{stands_first, one_side_walked}
@@ -8,11 +8,11 @@ pub loop-i-init : goal.loop-i-init
 loop-i-init c =
     let a = c.args in
     let q = c.requires in record {
-      walked = λ root second. outer_start a.tags.now a.n q.valid second root a.left.now q.full;
+      walked = λ root second. outer_start a.tags.now q.small second root a.left.now q.long;
       within = omega arith;
       sequence = q;
-      few = omega (arith, q.valid.few);
-      stands = stands_first a.tags.now a.left.now a.n q _ refl;
+      few = omega (arith, q.few);
+      stands = stands_first a.tags.now a.left.now q _ refl;
     }
 
 pub reach-s-requires-clause-stands : goal.reach-s-requires-clause-stands
@@ -21,7 +21,7 @@ reach-s-requires-clause-stands c =
     let l = c.loop-i in
     let back : l.i ≡ l.i - 1 + 1 = omega arith in (
       rw back at l.invariant.stands,
-      one_side_walked a.tags.now a.left.now l.left a.n c.requires.valid c.requires.full (tally_of l.s) (l.i - 1) (omega arith) (λ root second. rw back at (l.invariant.walked root second)),
+      one_side_walked a.tags.now a.left.now l.left c.requires.small c.requires.long (tally_of l.s) (l.i - 1) (omega arith) (λ root second. rw back at (l.invariant.walked root second)),
     )
 
 pub loop-i-preserved : goal.loop-i-preserved
@@ -30,9 +30,9 @@ loop-i-preserved c =
     let l = c.loop-i in
     let e = c.reach-s.ensures in
     let back : l.i ≡ l.i - 1 + 1 = omega arith in
-    let h : l.i - 1 < a.n = omega arith in record {
+    let h : l.i - 1 < length a.tags.now = omega arith in record {
       walked = λ root second.
-          outer_turn a.tags.now a.n c.requires.valid second root a.left.now l.left c.reach-s.new.left (tally_of l.s) (tally_of c.reach-s.result) (l.i - 1) c.requires.full h (rw back at (l.invariant.walked root second)) (e.reaches.legs root second) (e.reaches.tally root second);
+          outer_turn a.tags.now c.requires.small second root a.left.now l.left c.reach-s.new.left (tally_of l.s) (tally_of c.reach-s.result) (l.i - 1) c.requires.long h (rw back at (l.invariant.walked root second)) (e.reaches.legs root second) (e.reaches.tally root second);
       within = omega arith;
       sequence = e.reaches.sequence;
       few = omega (arith, e.reaches.few);
