@@ -23,12 +23,10 @@ fn symbol_of(root: u64, year: u64, month: u64, day: u64, right: u64, strike: u64
 }
 
 // Writes the parts into the lent bytes, prints the part handed back between bars and the number, then what the reader
-// says of it. A refusal hands back no part.
+// says of it.
 fn show<W: Write>(out: &mut W, parts: SymbolParts, lent: &mut [u8]) -> io::Result<()> {
-    let (part, number): (&[u8], u64) = match writer::write(parts, lent) {
-        Ok(part) => (part, 0),
-        Err(e) => (&[], u64::from(e)),
-    };
+    let mut number: u64 = 99;
+    let part = writer::write(parts, lent, &mut number);
     let back = said(symbol::read(part));
     let read = back.number;
     let strike = back.parts.strike.0;

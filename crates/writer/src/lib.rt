@@ -1,7 +1,7 @@
 // The symbol writer.
 #![tactic(auto)]
 
-ghost use Rattle.std.specs.Prelude.{◌≡◌, MatchResult};
+ghost use Rattle.std.specs.Prelude.{◌≡◌};
 ghost use Rattle.rules.specs.Symbol.{in_layout, write_symbol};
 ghost use Rattle.answers.specs.Answers.{refusal_number, number_of};
 ghost use Rattle.writer.specs.Writer.{Handed};
@@ -33,11 +33,15 @@ pub fn fill(p: SymbolParts, buffer: &mut [u8]) -> Result<(), Refusal>
     Ok(())
 }
 
-// The symbol writer: the leading part of the buffer, which holds the symbol.
-#[tactic(auto, using(rules::proofs::Symbols::handed_symbol))]
-pub fn write<'a>(p: SymbolParts, buffer: &'a mut [u8]) -> Result<&'a mut [u8], Refusal>
-    ensures { MatchResult result (λ r. Handed p buffer.entry r 0) (λ e. refusal_number e ≡ (write_symbol p buffer.entry.now).number) }
+// The symbol writer: the leading part of the buffer that holds the symbol, or an empty one, and the number.
+#[tactic(auto, using(rules::proofs::Symbols::handed_symbol, rules::proofs::Symbols::handed_nothing))]
+pub fn write<'a, 'b>(p: SymbolParts, buffer: &'a mut [u8], number: &'b mut u64) -> &'a mut [u8]
+    ensures { Handed p buffer.entry result number.new }
 {
-    fill(p, buffer)?;
-    Ok(&mut buffer[..21])
+    let written = fill(p, buffer);
+    *number = answers::number(written);
+    if written.is_err() {
+        return &mut buffer[..0];
+    }
+    &mut buffer[..21]
 }
