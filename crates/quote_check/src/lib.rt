@@ -4,43 +4,44 @@
 ghost use Rattle.std.specs.Prelude.{◌≡◌, true};
 ghost use Rattle.rules.specs.Market.{settings_of, market_of, settings_hold, market_holds};
 ghost use Rattle.rules.specs.Quote.{quote_rejection, answered_quote, check_quote};
+ghost use Rattle.answers.specs.Answers.{number_of, check_number, judged_quote_said, quote_said};
 
-use amounts::pick;
-use chain::checked;
-use choice::both;
+use answers::{AnswerToQuote, Check, JudgedQuote, fail_if};
 use inputs::{market_of, settings_of};
 use inversion::quote_inversion;
 use put_call::{call_test, put_test};
 use quote_validity::read_quote;
-use rules::{Market, Mills, QuoteAnswer, Series, Settings};
+use rules::{Market, Mills, Series, Settings};
 
-// The number of the first check that applies, 0 if none. 20 and 21 test the bid.
-pub fn rejection(st: Settings, m: Market, s: Series, bid: Mills, offer: Mills) -> u64
+// The first check that applies. 20 and 21 test the bid.
+#[tactic(auto, unfolding(rules::specs::Quote::quote_rejection, rules::specs::Numbers::first_of))]
+pub fn rejection(st: Settings, m: Market, s: Series, bid: Mills, offer: Mills) -> Result<(), Check>
     requires { (settings_hold st ≡ true) × (market_holds m ≡ true) }
-    ensures { result ≡ quote_rejection st m s bid offer }
+    ensures { number_of check_number result ≡ quote_rejection st m s bid offer }
 {
-    let n = checked(0, st.check20 != 0, put_test(s, bid), 20);
-    let n = checked(
-        n,
-        st.check21 != 0,
-        call_test(st.adjusted != 0, m, s, bid),
-        21,
-    );
-    checked(n, st.check26 != 0, quote_inversion(st, m, bid, offer), 26)
+    fail_if(st.check20 != 0 && put_test(s, bid), Check::Put)?;
+    fail_if(
+        st.check21 != 0 && call_test(st.adjusted != 0, m, s, bid),
+        Check::Call,
+    )?;
+    fail_if(
+        st.check26 != 0 && quote_inversion(st, m, bid, offer),
+        Check::QuoteInversion,
+    )
 }
 
 // A rejection cancels the resting quote.
-fn answered_quote(resting: u64, number: u64) -> QuoteAnswer
-    ensures { result ≡ answered_quote resting number }
+fn judged(resting: u64, verdict: Result<(), Check>) -> JudgedQuote
+    ensures { judged_quote_said result ≡ answered_quote resting (number_of check_number verdict) }
 {
-    QuoteAnswer {
-        number: number,
-        cancel: pick(both(resting != 0, number != 0), 1, 0),
+    JudgedQuote {
+        verdict,
+        cancel: resting != 0 && verdict.is_err(),
     }
 }
 
 // The quote check on the host's bytes. A refusal leaves the resting quote alone.
-#[tactic(auto, using(quote_validity::proofs::Laws::not_refused, crate::proofs::Laws::quote_refused, crate::proofs::Laws::quote_valid))]
+#[tactic(auto, unfolding(rules::specs::Quote::check_quote, rules::specs::Quote::quote_outcome))]
 fn check_quote(
     symbol: &[u8],
     bid: Mills,
@@ -48,18 +49,11 @@ fn check_quote(
     resting: u64,
     st: Settings,
     m: Market,
-) -> QuoteAnswer
-    ensures { result ≡ check_quote st m symbol.now bid offer resting }
+) -> AnswerToQuote
+    ensures { quote_said result ≡ check_quote st m symbol.now bid offer resting }
 {
-    let q = read_quote(symbol, bid, offer, st, m);
-    if q.number != 0 {
-        return QuoteAnswer {
-            number: q.number,
-            cancel: 0,
-        };
-    }
-    let series = q.series;
-    answered_quote(resting, rejection(st, m, series, bid, offer))
+    let read = read_quote(symbol, bid, offer, st, m)?;
+    Ok(judged(resting, rejection(st, m, read.series, bid, offer)))
 }
 
 // The quote check on the host's slices.
@@ -70,8 +64,8 @@ pub fn check_slices(
     resting: u64,
     settings: &[u64],
     market: &[u64],
-) -> QuoteAnswer
-    ensures { result ≡ check_quote (settings_of settings.now) (market_of market.now) symbol.now bid offer resting }
+) -> AnswerToQuote
+    ensures { quote_said result ≡ check_quote (settings_of settings.now) (market_of market.now) symbol.now bid offer resting }
 {
     let set = settings_of(settings);
     let values = market_of(market);

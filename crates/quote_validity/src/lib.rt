@@ -1,22 +1,22 @@
-// The refusals of a quote: the first number that applies, and root and series as read.
+// The refusals of a quote: the first that applies, and root and series as read.
 #![tactic(auto)]
 
-ghost use Rattle.std.specs.Prelude.{◌≡◌};
-ghost use Rattle.rules.specs.Quote.{is_bad_quote};
-ghost use Rattle.quote_validity.specs.Quotes.{IsQuoteRead};
+ghost use Rattle.std.specs.Prelude.{◌≡◌, true, IfOk};
+ghost use Rattle.rules.specs.Symbol.{parts_of};
+ghost use Rattle.rules.specs.Order.{series_of};
+ghost use Rattle.rules.specs.Market.{settings_hold, market_holds};
+ghost use Rattle.rules.specs.Quote.{is_bad_quote, quote_refusal};
+ghost use Rattle.answers.specs.Answers.{refusal_number, number_of};
 
 use amounts::within;
-use chain::otherwise;
-use choice::{either, negated};
+use answers::{Refusal, fail_if};
 use limits::{market_holds, settings_hold};
 use rules::{Market, Mills, Series, Settings};
 use series::series_of;
-use symbol::said;
 
-// Root and series count only where the number is 0.
+// What the symbol of a quote says.
 #[derive(Clone, Copy)]
 pub struct QuoteRead {
-    pub number: u64,
     pub root: u64,
     pub series: Series,
 }
@@ -25,28 +25,29 @@ pub struct QuoteRead {
 fn is_bad_quote(bid: Mills, offer: Mills) -> bool
     ensures { result ≡ is_bad_quote bid offer }
 {
-    either(
-        either(
-            negated(within(1, 1000000000, bid.0)),
-            negated(within(1, 1000000000, offer.0)),
-        ),
-        negated(bid.0 < offer.0),
-    )
+    !within(1, 1000000000, bid.0) || !within(1, 1000000000, offer.0) || offer.0 <= bid.0
 }
 
-// The reader's numbers, 1 and 4, are the first two of a quote's refusals.
-pub fn read_quote(symbol: &[u8], bid: Mills, offer: Mills, st: Settings, m: Market) -> QuoteRead
-    ensures { IsQuoteRead st m symbol.now bid offer result }
+// The reader's refusals, 1 and 4, are the first two of a quote's.
+#[tactic(auto, unfolding(rules::specs::Quote::quote_refusal, rules::specs::Numbers::first_of, rules::specs::Symbol::read_symbol))]
+pub fn read_quote(
+    symbol: &[u8],
+    bid: Mills,
+    offer: Mills,
+    st: Settings,
+    m: Market,
+) -> Result<QuoteRead, Refusal>
+    ensures number { number_of refusal_number result ≡ quote_refusal st m symbol.now bid offer }
+    ensures root { IfOk result (λ q. q.root ≡ (parts_of symbol.now).root) }
+    ensures series { IfOk result (λ q. q.series ≡ series_of (parts_of symbol.now)) }
+    ensures held { IfOk result (λ q. (settings_hold st ≡ true) × (market_holds m ≡ true)) }
 {
-    let read = said(symbol::read(symbol));
-    let series = series_of(read.parts);
-    let n = read.number;
-    let n = otherwise(n, negated(settings_hold(st)), 9);
-    let n = otherwise(n, negated(market_holds(m)), 10);
-    let n = otherwise(n, is_bad_quote(bid, offer), 11);
-    QuoteRead {
-        number: n,
-        root: read.parts.root,
-        series: series,
-    }
+    let parts = symbol::read(symbol)?;
+    fail_if(!settings_hold(st), Refusal::BadSetting)?;
+    fail_if(!market_holds(m), Refusal::BadMarket)?;
+    fail_if(is_bad_quote(bid, offer), Refusal::BadQuote)?;
+    Ok(QuoteRead {
+        root: parts.root,
+        series: series_of(parts),
+    })
 }

@@ -3,6 +3,7 @@ ghost use Rattle.std.specs.Prelude.{◌≡◌};
 ghost use Rattle.rules.specs.Market.{settings_of, market_of};
 ghost use Rattle.rules.specs.Quote.{check_quote};
 
+use answers::said_of_quote;
 use quote_check::check_slices;
 use rules::Mills;
 
@@ -19,7 +20,8 @@ pub extern "C" fn opc_check_quote(
 ) -> u64
     ensures { record { number = result; cancel = cancel.new } ≡ check_quote (settings_of settings.now) (market_of market.now) symbol.now (record { 0 = bid }) (record { 0 = offer }) resting }
 {
-    let answer = check_slices(symbol, Mills(bid), Mills(offer), resting, settings, market);
+    let quote = check_slices(symbol, Mills(bid), Mills(offer), resting, settings, market);
+    let answer = said_of_quote(quote);
     *cancel = answer.cancel;
     answer.number
 }
