@@ -2,25 +2,33 @@
 // first walk's sequence; groups, sides and series are read off the tags.
 #![tactic(auto)]
 
-ghost use Rattle.std.specs.Prelude.{◌≡◌, false, ◌+◌, ◌*◌, ◌<◌, length};
+ghost use Rattle.std.specs.Prelude.{◌≡◌, false, ◌+◌, ◌*◌, ◌≤◌, ◌<◌, length};
 ghost use Rattle.rules.specs.Pairing.{digit};
 ghost use Rattle.rules.specs.OpenContracts.{sign};
 ghost use Rattle.rules.specs.Valid.{InRange};
-ghost use Rattle.keys.specs.Tags.{key_of, is_bought, group_of, leg_at, second_tag, place_of, key_in, Arranged};
+ghost use Rattle.keys.specs.Tags.{packed, key_of, series_at, is_bought, group_of, leg_at, second_tag, place_of, key_in, Arranged};
 
 use rules::{Leg, Mills, Series};
+
+// A type and two numbers of eight digits as one number, which is in their order.
+fn packed(call: bool, middle: u64, low: u64) -> u64
+    requires { (middle ≤ 99999999) × (low ≤ 99999999) }
+    ensures { result ≡ packed (digit call) middle low }
+{
+    (u64::from(call) * 100000000 + middle) * 100000000 + low
+}
 
 // The tag of the first walk.
 pub fn tag_of(s: Series, bought: bool) -> u64
     requires { InRange s }
     ensures { (result ≡ key_of false s * 2 + digit bought) × (result < 40000000000000000) }
 {
-    let side = u64::from(bought);
-    if s.call {
-        ((100000000 + s.expiry) * 100000000 + (99999999 - s.strike.0)) * 2 + side
+    let low = if s.call {
+        99999999 - s.strike.0
     } else {
-        (s.expiry * 100000000 + s.strike.0) * 2 + side
-    }
+        s.strike.0
+    };
+    packed(s.call, s.expiry, low) * 2 + u64::from(bought)
 }
 
 // Whether the leg of a tag is bought.
@@ -44,40 +52,39 @@ pub fn group_of(tag: u64) -> u64
     tag / 200000000
 }
 
+// The series that a key of the first walk says.
+#[tactic(auto, unfolding(crate::specs::Tags::series_at))]
+fn series_at(key: u64) -> Series
+    ensures series { result ≡ series_at false key }
+    ensures in_range { InRange result }
+{
+    let call = key / 10000000000000000 == 1;
+    let low = key % 100000000;
+    Series {
+        call,
+        expiry: key / 100000000 % 100000000,
+        strike: Mills(if call { 99999999 - low } else { low }),
+    }
+}
+
 // The tag of the second walk, from that of the first. Of one strike the nearest expiry, which is walked last, has the
 // least.
-#[tactic(auto, using(crate::proofs::Keys::side_says), unfolding(crate::specs::Tags::series_at))]
+#[tactic(auto, using(crate::proofs::Keys::side_says))]
 pub fn second_tag(tag: u64) -> u64
     requires { tag < 40000000000000000 }
     ensures { (result ≡ second_tag tag) × (result < 40000000000000000) }
 {
-    let key = tag / 2;
-    let side = tag % 2;
-    let kind = key / 10000000000000000;
-    let expiry = key / 100000000 % 100000000;
-    let low = key % 100000000;
-    if kind == 1 {
-        ((100000000 + (99999999 - low)) * 100000000 + expiry) * 2 + side
-    } else {
-        (low * 100000000 + expiry) * 2 + side
-    }
+    let s = series_at(tag / 2);
+    packed(s.call, s.strike.0, s.expiry) * 2 + tag % 2
 }
 
 // The leg of a tag of the first walk. No check asks for its root.
-#[tactic(auto, unfolding(crate::specs::Tags::series_at))]
 pub fn leg_at(tag: u64, size: u64) -> Leg
     ensures { result ≡ leg_at 0 false tag size }
 {
-    let key = tag / 2;
-    let call = key / 10000000000000000 == 1;
-    let low = key % 100000000;
     Leg {
         root: 0,
-        series: Series {
-            call,
-            expiry: key / 100000000 % 100000000,
-            strike: Mills(if call { 99999999 - low } else { low }),
-        },
+        series: series_at(tag / 2),
         bought: is_bought(tag),
         size,
     }

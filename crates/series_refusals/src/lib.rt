@@ -48,8 +48,9 @@ pub fn sorted_twice(places: &mut [u64], roots: &[u64], other: bool) -> bool
     ensures { SortedTwice other places.old roots.now places.new result }
 {
     if other {
-        return some_two(places, roots);
+        some_two(places, roots)
+    } else {
+        sort(places);
+        some_next(places)
     }
-    sort(places);
-    some_next(places)
 }
