@@ -4,44 +4,41 @@
 ghost use Rattle.std.specs.Prelude.{◌≡◌, false, ◌<◌, ◌≤◌, length};
 ghost use Rattle.rules.specs.Tally.{is_bad_tally};
 ghost use Rattle.rules.specs.Session.{login_at, with_login, is_rejection_limit, is_bad_login, counted_login, released_login};
+ghost use Rattle.answers.specs.Answers.{answer_said};
 
 use amounts::within;
-use choice::{either, negated};
+use answers::Answer;
 use rules::{Login, Tally};
-use tally::{counted, is_broken, is_rejected, one_more};
+use tally::{counted, is_broken, is_rejected};
 
 // Reads a login from its six places.
-#[tactic(auto, unfolding(rules::specs::Session::login_at))]
+#[tactic(auto, using(crate::proofs::Laws::chunk_read), unfolding(rules::specs::Session::login_at))]
 pub fn login_at(session: &[u64], i: usize) -> Login
     requires { (i < 32) × (length session.now ≡ 192) }
     ensures { result ≡ login_at session.now i }
 {
-    let at = 6 * i;
+    let [limit, seen, refused, accepted, rejected, running] = session.as_chunks::<6>().0[i];
     Login {
-        limit: session[at],
+        limit,
         tally: Tally {
-            seen: session[at + 1],
-            refused: session[at + 2],
-            accepted: session[at + 3],
-            rejected: session[at + 4],
+            seen,
+            refused,
+            accepted,
+            rejected,
         },
-        running: session[at + 5],
+        running,
     }
 }
 
 // Stores a login in its six places; the others stay.
-#[tactic(auto, using(crate::proofs::Laws::stored_login))]
+#[tactic(auto, unfolding(rules::specs::Session::with_login))]
 pub fn place_login(session: &mut [u64], i: usize, l: Login)
     requires { (i < 32) × (length session.old ≡ 192) }
     ensures { session.new ≡ with_login session.old i l }
 {
-    let at = 6 * i;
-    session[at] = l.limit;
-    session[at + 1] = l.tally.seen;
-    session[at + 2] = l.tally.refused;
-    session[at + 3] = l.tally.accepted;
-    session[at + 4] = l.tally.rejected;
-    session[at + 5] = l.running;
+    let t = l.tally;
+    let places = [l.limit, t.seen, t.refused, t.accepted, t.rejected, l.running];
+    session[6 * i..6 * i + 6].copy_from_slice(&places);
 }
 
 // Whether a limit of rejections is within its range.
@@ -51,29 +48,23 @@ pub fn is_limit(n: u64) -> bool
     within(1, 10000, n)
 }
 
-// Whether a login's numbers cannot be those of a session that was started. Ends at the first that is wrong.
+// Whether a login's numbers cannot be those of a session that was started.
 #[tactic(auto, unfolding(rules::specs::Session::is_bad_login))]
 pub fn is_bad_login(l: Login) -> bool
     ensures { result ≡ is_bad_login l }
 {
-    if negated(is_limit(l.limit)) {
-        return true;
-    }
-    if is_broken(l.tally) {
-        return true;
-    }
-    either(l.limit < l.running, l.tally.rejected < l.running)
+    !is_limit(l.limit) || is_broken(l.tally) || l.limit < l.running || l.tally.rejected < l.running
 }
 
-// One order more, by the number that it got.
-pub fn counted_login(l: Login, number: u64) -> Login
+// One order more, by its answer.
+pub fn counted_login(l: Login, answer: Answer) -> Login
     requires { (is_bad_tally l.tally ≡ false) × (l.running ≤ 10000) }
-    ensures { result ≡ counted_login l number }
+    ensures { result ≡ counted_login l (answer_said answer).number }
 {
     Login {
-        limit: l.limit,
-        tally: counted(l.tally, number),
-        running: one_more(is_rejected(number), l.running),
+        tally: counted(l.tally, answer),
+        running: l.running + u64::from(is_rejected(answer)),
+        ..l
     }
 }
 
@@ -81,10 +72,5 @@ pub fn counted_login(l: Login, number: u64) -> Login
 pub fn released_login(l: Login) -> Login
     ensures { result ≡ released_login l }
 {
-    let tally = l.tally;
-    Login {
-        limit: l.limit,
-        tally: tally,
-        running: 0,
-    }
+    Login { running: 0, ..l }
 }
