@@ -24,7 +24,6 @@ fn room(session: &[u64]) -> u64
 }
 
 // Some login is bad.
-#[tactic(auto, using(crate::proofs::Survey::any_login))]
 fn some_bad(session: &[u64]) -> bool
     requires { length session.now ≡ 192 }
     ensures { result ≡ any is_bad_login (logins session.now) }

@@ -1,50 +1,18 @@
--- Limits tested one after another; a session filled login by login; and a start, by the two lengths and the limits.
-use mathlib.Core.Path.{◌≡◌, refl, sym, ap, ◌∙◌}
-use mathlib.Core.List.{List, [], ◌∷◌, ◌++◌, append_assoc, append-nil}
-use mathlib.Core.Bool.{Bool, true, false, not, ◌&&◌}
-use Prim.Native.Nat.{ℕ, ◌+◌, ◌*◌, ◌≤◌, ◌<◌}
-use native.Mathlib.Omega.{arith}
-use native.Mathlib.Numerals.{add-one}
-use lib.Dec.{eqb}
-use lib.ListN.{length, take, drop, get_or, replicate, drop_of_length-le}
-use lib.Seq.{length-take-le, take-suc, take_all, drop-cons, take_at, drop-append-add, drop-drop}
-use borrow.Author.Tests.{eqb-true, eq-eqb, ne_eqb, not-false}
+-- A session filled login by login.
+use Rattle.std.proofs.Common.{◌≡◌, refl, sym, ap, ◌∙◌, List, [], ◌∷◌, ◌++◌, append_assoc, append-nil, Bool, ◌&&◌, ℕ, ◌+◌, ◌*◌, ◌≤◌, ◌<◌, arith, add-one, length, take, drop, get_or}
+use lib.ListN.{drop_of_length-le}
+use lib.Seq.{length-take-le, take-suc, take_all, take_at, drop-append-add, drop-drop}
+use Rattle.std.specs.List.{list_all}
+use Rattle.std.proofs.lemmas.List.Recursion.{same_from_clauses}
 use Rattle.rules.specs.declared.Login.{Login}
 use Rattle.rules.specs.Lists.{all}
-use Rattle.rules.specs.Numbers.{first_of}
-use Rattle.rules.specs.Session.{login_numbers, with_login, is_rejection_limit, fresh_login, session_of, start_session}
-use Rattle.rules.proofs.Tests.{and_both, not_eq}
+use Rattle.rules.specs.Session.{login_numbers, with_login, is_rejection_limit, fresh_login, session_of}
 use Rattle.rules.proofs.Logins.{length_session}
 
--- ---- limits
-
-module _ (ns : List ℕ) where
-  pub limits_other : (length ns ≡ 32 → ⊥) → false ≡ eqb (length ns) 32 && all is_rejection_limit ns
-  limits_other h = rw (ne_eqb (length ns) 32 h)
-
-  pub limits_some : {b : Bool} → b ≡ eqb (length ns) 32 && all is_rejection_limit ns → b ≡ true → length ns ≡ 32
-  limits_some e h = eqb-true (length ns) 32 (and_both (eqb (length ns) 32) _ (sym e ∙ h)).0
-
-  module _ (some : length ns ≡ 32) (i : ℕ) (so : all is_rejection_limit ns ≡ all is_rejection_limit (drop i ns)) where
-    -- by the limit at `i`
-    limits_next : i < 32 → all is_rejection_limit ns ≡ is_rejection_limit (get_or ns i 0) && all is_rejection_limit (drop (i + 1) ns)
-    unfolding all
-    limits_next h = so ∙ rw add-one (ap (all is_rejection_limit) (drop-cons ns i 0 (omega arith)))
-
-    module _ (more : i < 32) {b n : Bool} (tested : b ≡ is_rejection_limit (get_or ns i 0)) (negated : n ≡ not b) where
-      pub limits_turn : n ≡ false → all is_rejection_limit ns ≡ all is_rejection_limit (drop (i + 1) ns)
-      limits_turn e = let k : is_rejection_limit (get_or ns i 0) ≡ true = sym tested ∙ not-false b (sym negated ∙ e) in limits_next more ∙ ap (λ (b : Bool). b && all is_rejection_limit (drop (i + 1) ns)) k
-
-      pub limits_bad : n ≡ true → false ≡ eqb (length ns) 32 && all is_rejection_limit ns
-      limits_bad e =
-          let k : is_rejection_limit (get_or ns i 0) ≡ false = sym tested ∙ not_eq b (sym negated ∙ e) in
-          rw (eq-eqb (length ns) 32 some) (sym (limits_next more ∙ ap (λ (b : Bool). b && all is_rejection_limit (drop (i + 1) ns)) k))
-
-    pub limits_end : 32 ≤ i → true ≡ eqb (length ns) 32 && all is_rejection_limit ns
-    unfolding all
-    limits_end h = rw (eq-eqb (length ns) 32 some) (sym (so ∙ ap (all is_rejection_limit) (drop_of_length-le ns {i = i} (omega arith))))
-
--- ---- logins
+-- what `all` of an iterator says
+pub all_limits : (ns : List ℕ) → list_all is_rejection_limit ns ≡ all is_rejection_limit ns
+unfolding all
+all_limits ns = same_from_clauses (list_all is_rejection_limit) (all is_rejection_limit) (λ (n : ℕ) (b : Bool). is_rejection_limit n && b) refl (λ _ _. refl) (λ _ _. refl) ns
 
 session_append : (xs ys : List ℕ) → session_of (xs ++ ys) ≡ session_of xs ++ session_of ys
 unfolding session_of
@@ -54,10 +22,6 @@ session_append (x ∷ xs) ys = ap (λ (s : List ℕ). login_numbers (fresh_login
 -- the logins of the first `i` limits, and behind them what was there
 abbrev pub filled : List ℕ → List ℕ → ℕ → List ℕ
 filled limits s i = session_of (take i limits) ++ drop (6 * i) s
-
-pub filled_none : (limits s : List ℕ) → s ≡ filled limits s 0
-unfolding session_of
-filled_none limits s = refl
 
 module _ (limits s : List ℕ) (some : length limits ≡ 32) (whole : length s ≡ 192) where
   pub filled_next : (i : ℕ) → i < 32 → {t u : List ℕ} {l : Login} → t ≡ filled limits s i → l ≡ fresh_login (get_or limits i 0) → u ≡ with_login t i l → u ≡ filled limits s (i + 1)
@@ -93,19 +57,3 @@ module _ (limits s : List ℕ) (some : length limits ≡ 32) (whole : length s �
       ap (λ (ns : List ℕ). session_of ns ++ drop (6 * i) s) (take_all i limits (omega arith))
       ∙ ap (λ (ns : List ℕ). session_of limits ++ ns) (drop_of_length-le s {i = 6 * i} (omega arith))
       ∙ append-nil (session_of limits)
-
--- ---- a start
-
-module _ (limits s : List ℕ) where
-  pub start_other : (length s ≡ 192 → ⊥) → (12 ≡ (start_session limits s).number) × (s ≡ (start_session limits s).session)
-  unfolding start_session first_of
-  start_other h = rw (ne_eqb (length s) 192 h) (refl, refl)
-
-  module _ (whole : length s ≡ 192) {b : Bool} (tested : b ≡ eqb (length limits) 32 && all is_rejection_limit limits) {t : List ℕ} where
-    pub start_done : b ≡ true → t ≡ session_of limits → (0 ≡ (start_session limits s).number) × (t ≡ (start_session limits s).session)
-    unfolding start_session first_of
-    start_done h e = rw (eq-eqb (length s) 192 whole, sym tested ∙ h) (refl, e)
-
-    pub start_refused : b ≡ false → t ≡ session_of (replicate 32 0) → (9 ≡ (start_session limits s).number) × (t ≡ (start_session limits s).session)
-    unfolding start_session first_of session_of
-    start_refused h e = rw (eq-eqb (length s) 192 whole, sym tested ∙ h) (refl, e)

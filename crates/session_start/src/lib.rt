@@ -4,65 +4,52 @@
 ghost use Rattle.std.specs.Prelude.{◌≡◌, ◌&&◌, eqb, length};
 ghost use Rattle.rules.specs.Lists.{all};
 ghost use Rattle.rules.specs.Session.{is_rejection_limit, session_of, start_session};
+ghost use Rattle.answers.specs.Answers.{refusal_number, number_of};
 
-use choice::negated;
+use answers::{Refusal, fail_if};
 use logins::{is_limit, place_login};
 use rules::{Login, Tally};
 
 // Whether there are 32, each within its range.
-#[tactic(auto, using(crate::proofs::Laws::limits_other, crate::proofs::Laws::limits_end))]
 fn are_limits(limits: &[u64]) -> bool
     ensures { result ≡ eqb (length limits.now) 32 && all is_rejection_limit limits.now }
 {
-    if limits.len() != 32 {
-        return false;
-    }
-    let mut i = 0;
-    while i < 32 {
-        if negated(is_limit(limits[i])) {
-            return false;
-        }
-        i += 1;
-    }
-    true
+    limits.len() == 32 && limits.iter().all(|n| is_limit(*n))
 }
 
 // Each login anew, with its limit.
-#[tactic(auto, using(crate::proofs::Laws::filled_none, crate::proofs::Laws::filled_next, crate::proofs::Laws::filled_all))]
+#[tactic(auto, using(crate::proofs::Laws::filled_next, crate::proofs::Laws::filled_all), unfolding(rules::specs::Session::session_of))]
 fn fill(limits: &[u64], session: &mut [u64])
     requires { (length limits.now ≡ 32) × (length session.old ≡ 192) }
     ensures { session.new ≡ session_of limits.now }
 {
-    let mut i = 0;
-    while i < 32 {
+    let tally = Tally {
+        seen: 0,
+        refused: 0,
+        accepted: 0,
+        rejected: 0,
+    };
+    for (i, limit) in limits.iter().enumerate() {
         let fresh = Login {
-            limit: limits[i],
-            tally: Tally {
-                seen: 0,
-                refused: 0,
-                accepted: 0,
-                rejected: 0,
-            },
+            limit: *limit,
+            tally,
             running: 0,
         };
         place_login(session, i, fresh);
-        i += 1;
     }
 }
 
 // Starts a session. Other limits leave it all zero: no login has a limit, and each call of a login 0 to 31 gets 12.
-#[tactic(auto, using(crate::proofs::Laws::limits_some, crate::proofs::Laws::start_other, crate::proofs::Laws::start_done, crate::proofs::Laws::start_refused))]
-pub fn start(limits: &[u64], session: &mut [u64]) -> u64
-    ensures value { result ≡ (start_session limits.now session.old).number }
+#[tactic(auto, unfolding(rules::specs::Session::start_session, rules::specs::Numbers::first_of))]
+pub fn start(limits: &[u64], session: &mut [u64]) -> Result<(), Refusal>
+    ensures value { number_of refusal_number result ≡ (start_session limits.now session.old).number }
     ensures session_after { session.new ≡ (start_session limits.now session.old).session }
 {
-    if session.len() != 192 {
-        return 12;
+    fail_if(session.len() != 192, Refusal::BadTally)?;
+    if !are_limits(limits) {
+        session.fill(0);
+        return Err(Refusal::BadSetting);
     }
-    if are_limits(limits) {
-        fill(limits, session);
-        return 0;
-    }
-    fill(&[0; 32], session);
-    9
+    fill(limits, session);
+    Ok(())
 }
