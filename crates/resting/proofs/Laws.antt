@@ -1,58 +1,44 @@
--- A resting list tested place by place.
-use mathlib.Core.Path.{◌≡◌, refl, sym, ap, ◌∙◌}
-use mathlib.Core.List.{List, ◌∷◌}
-use mathlib.Core.Bool.{Bool, true, false, not, ◌&&◌}
-use Prim.Native.Nat.{ℕ, ◌+◌, ◌≤◌, ◌<◌}
-use native.Mathlib.Omega.{arith}
-use native.Mathlib.Numerals.{add-one}
-use lib.ListN.{length, drop, get_or, drop_of_length-le}
-use lib.Seq.{drop-cons}
-use borrow.Author.Tests.{not-false}
+-- What a test of each number, or of each two neighbours, says of a list.
+use Rattle.std.proofs.Common.{◌≡◌, refl, sym, ap, ◌∙◌, List, [], ◌∷◌, Bool, true, false, not, ◌&&◌, ℕ, zero, suc, ◌+◌, ◌<◌, arith, length, get_or}
+use Rattle.std.specs.List.{list_all, IsAllAdjacentAnswer, AllAdjacentBelow}
+use Rattle.std.proofs.lemmas.List.Recursion.{same_from_clauses}
 use Rattle.rules.specs.Lists.{all}
 use Rattle.rules.specs.Market.{at_or_past}
-use Rattle.rules.specs.Crossing.{is_price, is_size, leads, in_sequence, list_holds}
-use Rattle.rules.proofs.Tests.{not_eq}
+use Rattle.rules.specs.Crossing.{in_sequence}
 
--- ---- a price and the next
+pub all_same : (f : ℕ → Bool) (ns : List ℕ) → list_all f ns ≡ all f ns
+unfolding all
+all_same f ns = same_from_clauses (list_all f) (all f) (λ (n : ℕ) (b : Bool). f n && b) refl (λ _ _. refl) (λ _ _. refl) ns
 
-module _ (bought : Bool) (ps : List ℕ) (i : ℕ) where
-  pub leads_next : i + 1 < length ps → {a r : Bool} → a ≡ at_or_past bought (get_or ps i 0) (get_or ps (i + 1) 0) → r ≡ not a → r ≡ leads bought (get_or ps i 0) (drop (i + 1) ps)
-  leads_next h e f = rw (drop-cons ps (i + 1) 0 h) (f ∙ ap not e)
-
-  pub leads_last : length ps ≤ i + 1 → true ≡ leads bought (get_or ps i 0) (drop (i + 1) ps)
-  leads_last h = rw (drop_of_length-le ps {i = i + 1} h) refl
-
--- ---- the list
+and_no : (a b : Bool) → b ≡ false → a && b ≡ false
+and_no true b h = h
+and_no false b h = refl
 
 module _ (bought : Bool) where
-  -- by its first place
-  holds_cons : (p n : ℕ) (ps ns : List ℕ) → list_holds bought (p ∷ ps) (n ∷ ns) ≡ ((is_price p && is_size n) && leads bought p ps) && list_holds bought ps ns
-  unfolding all in_sequence
-  holds_cons p n ps ns = go (is_price p) (is_size n) (leads bought p ps) (all is_price ps) (all is_size ns)
-    where
-      go : (a b l c d : Bool) → (a && c) && ((b && d) && (l && in_sequence bought ps)) ≡ ((a && b) && l) && (c && (d && in_sequence bought ps))
-      go false b l c d = refl
-      go true false l true d = refl
-      go true false l false d = refl
-      go true true true c d = refl
-      go true true false true true = refl
-      go true true false true false = refl
-      go true true false false d = refl
+  abbrev pub before : ℕ → ℕ → Bool
+  before p q = not (at_or_past bought p q)
 
-  module _ (ps ns : List ℕ) (same : length ns ≡ length ps) (i : ℕ) (so : list_holds bought ps ns ≡ list_holds bought (drop i ps) (drop i ns)) where
-    holds_next : i < length ps → list_holds bought ps ns ≡ ((is_price (get_or ps i 0) && is_size (get_or ns i 0)) && leads bought (get_or ps i 0) (drop (i + 1) ps)) && list_holds bought (drop (i + 1) ps) (drop (i + 1) ns)
-    holds_next h = so ∙ rw (add-one, drop-cons ps i 0 h, drop-cons ns i 0 (omega (arith, same))) (holds_cons (get_or ps i 0) (get_or ns i 0) _ _)
+  -- a place behind the first
+  next_place : (p : ℕ) (ps : List ℕ) (k d : ℕ) → get_or (p ∷ ps) (suc k + 1) d ≡ get_or ps (k + 1) d
+  next_place p ps k d = let e : suc k + 1 ≡ suc (k + 1) = omega arith in ap (λ (n : ℕ). get_or (p ∷ ps) n d) e
 
-    module _ (more : i < length ps) {p n b l t f : Bool} (price : p ≡ is_price (get_or ps i 0)) (size : n ≡ is_size (get_or ns i 0)) (limits : b ≡ p && n) (led : l ≡ leads bought (get_or ps i 0) (drop (i + 1) ps)) (tested : t ≡ b && l) (negated : f ≡ not t) where
-      here : (is_price (get_or ps i 0) && is_size (get_or ns i 0)) && leads bought (get_or ps i 0) (drop (i + 1) ps) ≡ t
-      here = sym (cc (price, size, limits, led, tested))
+  sequence_holds : (ps : List ℕ) → AllAdjacentBelow (λ p q. true ≡ before p q) ps (length ps) → true ≡ in_sequence bought ps
+  unfolding in_sequence
+  sequence_holds [] h = refl
+  sequence_holds (p ∷ []) h = refl
+  sequence_holds (p ∷ q ∷ ps) h =
+      let rest = sequence_holds (q ∷ ps) (λ k d l. h (suc k) d (omega arith) ∙ ap (before (get_or (q ∷ ps) k d)) (next_place p (q ∷ ps) k d)) in
+      rw (sym (h 0 0 (omega arith))) rest
 
-      pub holds_turn : f ≡ false → list_holds bought ps ns ≡ list_holds bought (drop (i + 1) ps) (drop (i + 1) ns)
-      holds_turn e = holds_next more ∙ ap (λ (t : Bool). t && list_holds bought (drop (i + 1) ps) (drop (i + 1) ns)) (here ∙ not-false t (sym negated ∙ e))
+  sequence_breaks : (ps : List ℕ) (k : ℕ) → k + 1 < length ps → false ≡ before (get_or ps k 0) (get_or ps (k + 1) 0) → false ≡ in_sequence bought ps
+  unfolding in_sequence
+  sequence_breaks [] k l h = absurd (omega arith)
+  sequence_breaks (p ∷ []) k l h = absurd (omega arith)
+  sequence_breaks (p ∷ q ∷ ps) zero l h = rw (sym h) refl
+  sequence_breaks (p ∷ q ∷ ps) (suc k) l h =
+      let rest = sequence_breaks (q ∷ ps) k (omega arith) (h ∙ ap (before (get_or (q ∷ ps) k 0)) (next_place p (q ∷ ps) k 0)) in
+      sym (and_no (before p q) _ (sym rest))
 
-      pub holds_bad : f ≡ true → false ≡ list_holds bought ps ns
-      holds_bad e = sym (holds_next more ∙ ap (λ (t : Bool). t && list_holds bought (drop (i + 1) ps) (drop (i + 1) ns)) (here ∙ not_eq t (sym negated ∙ e)))
-
-    pub holds_end : length ps ≤ i → true ≡ list_holds bought ps ns
-    unfolding all in_sequence
-    holds_end h = sym (so ∙ rw (drop_of_length-le ps {i = i} h, drop_of_length-le ns {i = i} (omega (arith, same))) refl)
+  pub sequence_found : (ps : List ℕ) (r : Bool) → IsAllAdjacentAnswer (λ p q b. b ≡ before p q) ps r → r ≡ in_sequence bought ps
+  sequence_found ps true h = sequence_holds ps h
+  sequence_found ps false (k, l, h) = sequence_breaks ps k l (h 0)
