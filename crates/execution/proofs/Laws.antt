@@ -5,7 +5,7 @@ use mathlib.Core.Bool.{Bool, true, false, not, ◌&&◌, ◌||◌}
 use Prim.Native.Nat.{ℕ, ◌+◌, ◌-◌, ◌≤◌, ◌<◌}
 use native.Mathlib.Omega.{arith}
 use native.Mathlib.Numerals.{add-one}
-use lib.ListN.{length, take, drop, get_or, set, replicate, take-append-drop, replicate-append-replicate}
+use lib.ListN.{length, take, drop, get_or, set, take-append-drop}
 use lib.Seq.{take_all, take-suc, take-suc-set, drop-cons, drop-set-lt}
 use borrow.Author.Tests.{leb-true, leb-false, le-leb}
 use Rattle.rules.specs.declared.Mills.{Mills}
@@ -17,14 +17,6 @@ use Rattle.rules.proofs.Executing.{fill_small, length_fills}
 use Rattle.laws.proofs.Lists.{total_append}
 use Rattle.loops.proofs.Filling.{rest_same}
 use Rattle.execution.specs.Bounds.{furthest}
-
--- ---- cleared
-
-pub clear_turn : (ns : List ℕ) (i : ℕ) → i < length ns → take i ns ≡ replicate i 0 → take (i + 1) (set ns i 0) ≡ replicate (i + 1) 0
-clear_turn ns i h e = ap (λ (n : ℕ). take n (set ns i 0)) (add-one i) ∙ take-suc-set ns i 0 h ∙ ap (λ (xs : List ℕ). xs ++ (0 ∷ [])) e ∙ replicate-append-replicate i 1 0
-
-pub clear_all : (ns : List ℕ) (i n : ℕ) → length ns ≡ n → i ≤ length ns → length ns ≤ i → take i ns ≡ replicate i 0 → ns ≡ replicate n 0
-clear_all ns i n e l h t = let k : i ≡ n = omega (arith, e) in sym (take_all i ns h) ∙ t ∙ ap (λ (k : ℕ). replicate k 0) k
 
 -- ---- filled
 
