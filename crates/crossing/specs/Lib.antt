@@ -1,1 +1,2 @@
 pub mod ByQuote
+pub mod Said

@@ -3,21 +3,63 @@
 
 ghost use Rattle.std.specs.Prelude.{◌≡◌, not, ◌≤◌, length, replicate};
 ghost use Rattle.rules.specs.Order.{is_yes};
-ghost use Rattle.rules.specs.Kinds.{is_refused};
-ghost use Rattle.rules.specs.Crossing.{crossing_price, execution, unexecuted};
+ghost use Rattle.rules.specs.Crossing.{crossing_price, execution};
+ghost use Rattle.answers.specs.Answers.{quote_said};
+ghost use Rattle.resting.specs.Lent.{lent};
 ghost use Rattle.crossing.specs.ByQuote.{crossed_by};
+ghost use Rattle.crossing.specs.Said.{crossed_said};
 
-use amounts::{pick, within};
-use choice::{either, negated};
-use execution::{clear, fill, furthest, is_booked};
-use resting::{is_bad_crossing, is_bought};
-use rules::{CrossingAnswer, Mills, QuoteAnswer};
+use answers::{AnswerToQuote, Check, Refusal, fail_if};
+use execution::{fill, furthest, is_booked};
+use resting::{Crossing, is_bad_crossing, is_bought};
+use rules::{CrossingAnswer, Mills};
 
-// Neither accepted nor rejected.
-fn is_refused(number: u64) -> bool
-    ensures { result ≡ is_refused number }
+// The parts of an accepted crossing quote's size.
+#[derive(Clone, Copy)]
+pub struct Parts {
+    pub executed: u64,
+    pub booked: u64,
+    pub cancelled: u64,
+}
+
+// A valid crossing quote as judged. With the check that rejects it, whether the resting quote is to be cancelled.
+#[derive(Clone, Copy)]
+pub enum Crossed {
+    Accepted(Parts),
+    Rejected(Check, bool),
+}
+
+// What the check on a crossing quote answers.
+pub type AnswerToCrossing = Result<Crossed, Refusal>;
+
+// A crossing quote's answer in numbers. A refusal cancels nothing, and what is not accepted executes nothing.
+pub fn said_of_crossing(answer: AnswerToCrossing) -> CrossingAnswer
+    ensures { result ≡ crossed_said answer }
 {
-    negated(either(number == 0, within(20, 26, number)))
+    let nothing = CrossingAnswer {
+        number: 0,
+        cancel: 0,
+        executed: 0,
+        booked: 0,
+        cancelled: 0,
+    };
+    match answer {
+        Ok(Crossed::Accepted(parts)) => CrossingAnswer {
+            executed: parts.executed,
+            booked: parts.booked,
+            cancelled: parts.cancelled,
+            ..nothing
+        },
+        Ok(Crossed::Rejected(check, cancel)) => CrossingAnswer {
+            number: u64::from(check),
+            cancel: u64::from(cancel),
+            ..nothing
+        },
+        Err(refusal) => CrossingAnswer {
+            number: u64::from(refusal),
+            ..nothing
+        },
+    }
 }
 
 // The price of the side that crosses.
@@ -27,78 +69,40 @@ fn crossing_price(bought: bool, bid: Mills, offer: Mills) -> Mills
     if bought { bid } else { offer }
 }
 
-// Nothing executes.
-fn unexecuted(number: u64, cancel: u64) -> CrossingAnswer
-    ensures { result ≡ unexecuted number cancel }
-{
-    CrossingAnswer {
-        number: number,
-        cancel: cancel,
-        executed: 0,
-        booked: 0,
-        cancelled: 0,
-    }
-}
-
 // Fills the list, of which nothing is filled yet; the remainder of the size is booked or cancelled.
-fn execute(
-    bid: Mills,
-    offer: Mills,
-    sell: u64,
-    size: u64,
-    prices: &[u64],
-    sizes: &[u64],
-    away: Mills,
-    fills: &mut [u64],
-) -> CrossingAnswer
-    requires { (length sizes.now ≡ length prices.now) × (length prices.now ≤ length fills.old) × (fills.old ≡ replicate (length fills.old) 0) }
-    ensures { record { answer = result; fills = fills.new } ≡ execution (length fills.old) (crossing_price (not (is_yes sell)) bid offer) (record { sell = sell; size = size; prices = prices.now; sizes = sizes.now; away = away }) }
+fn execute(bid: Mills, offer: Mills, c: Crossing, fills: &mut [u64]) -> Parts
+    requires { (length c.sizes.now ≡ length c.prices.now) × (length c.prices.now ≤ length fills.old) × (fills.old ≡ replicate (length fills.old) 0) }
+    ensures { record { answer = crossed_said (Ok (Crossed.Accepted result)); fills = fills.new } ≡ execution (length fills.old) (crossing_price (not (is_yes c.entry.sell)) bid offer) (lent c.entry) }
 {
-    let bought = is_bought(sell);
+    let bought = is_bought(c.sell);
     let price = crossing_price(bought, bid, offer);
-    let booked = is_booked(bought, price, away);
-    let left = fill(
-        bought,
-        furthest(booked, price, away),
-        size,
-        prices,
-        sizes,
-        fills,
-    );
-    CrossingAnswer {
-        number: 0,
-        cancel: 0,
-        executed: size - left,
-        booked: pick(booked, left, 0),
-        cancelled: pick(booked, 0, left),
+    let booked = is_booked(bought, price, c.away);
+    let left = fill(bought, furthest(booked, price, c.away), c, fills);
+    let (booked, cancelled) = if booked { (left, 0) } else { (0, left) };
+    Parts {
+        executed: c.size - left,
+        booked,
+        cancelled,
     }
 }
 
 // What a crossing quote gets, by the quote check's answer. What comes with it counts only where that check does not
 // refuse, and it executes only where that check accepts.
-#[tactic(auto, using(rules::proofs::Executing::good_lengths), unfolding(crate::specs::ByQuote::crossed_by))]
+#[tactic(auto, using(rules::proofs::Executing::good_lengths, answers::proofs::Laws::refusal_refuses, answers::proofs::Laws::check_rejects), unfolding(crate::specs::ByQuote::crossed_by))]
 pub fn cross(
-    quote: QuoteAnswer,
+    quote: AnswerToQuote,
     bid: Mills,
     offer: Mills,
-    sell: u64,
-    size: u64,
-    prices: &[u64],
-    sizes: &[u64],
-    away: Mills,
+    c: Crossing,
     fills: &mut [u64],
-) -> CrossingAnswer
-    ensures { record { answer = result; fills = fills.new } ≡ crossed_by quote bid offer (record { sell = sell; size = size; prices = prices.now; sizes = sizes.now; away = away }) (length fills.old) }
+) -> AnswerToCrossing
+    ensures { record { answer = crossed_said result; fills = fills.new } ≡ crossed_by (quote_said quote) bid offer (lent c.entry) (length fills.old) }
 {
-    clear(fills);
-    if is_refused(quote.number) {
-        return unexecuted(quote.number, quote.cancel);
-    }
-    if is_bad_crossing(fills.len(), sell, size, prices, sizes, away) {
-        return unexecuted(36, 0);
-    }
-    if quote.number != 0 {
-        return unexecuted(quote.number, quote.cancel);
-    }
-    execute(bid, offer, sell, size, prices, sizes, away, fills)
+    fills.fill(0);
+    let judged = quote?;
+    fail_if(is_bad_crossing(fills.len(), c), Refusal::BadCrossing)?;
+    Ok(match judged.verdict {
+        Ok(()) => Crossed::Accepted(execute(bid, offer, c, fills)),
+        Err(check) => Crossed::Rejected(check, judged.cancel),
+    })
 }
