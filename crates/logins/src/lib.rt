@@ -37,7 +37,9 @@ pub fn place_login(session: &mut [u64], i: usize, l: Login)
     ensures { session.new ≡ with_login session.old i l }
 {
     let t = l.tally;
-    let places = [l.limit, t.seen, t.refused, t.accepted, t.rejected, l.running];
+    let places = [
+        l.limit, t.seen, t.refused, t.accepted, t.rejected, l.running,
+    ];
     session[6 * i..6 * i + 6].copy_from_slice(&places);
 }
 

@@ -6,7 +6,7 @@ ghost use Rattle.rules.specs.Kinds.{is_rejected};
 ghost use Rattle.rules.specs.Tally.{is_broken, is_bad_tally, counted, tallied};
 ghost use Rattle.answers.specs.Answers.{answer_said};
 
-use answers::{Answer, Refusal, fail_if};
+use answers::{Answer, Refusal, fail_if, lend};
 use rules::Tally;
 
 // Not the sum of its parts. The three together might not fit a word, so they are taken from what was seen.
@@ -56,4 +56,31 @@ pub fn tallied(tally: &mut Tally, answer: Answer) -> Answer
     fail_if(is_bad_tally(*tally), Refusal::BadTally)?;
     *tally = counted(*tally, answer);
     answer
+}
+
+// The answer, counted in a tally that is lent number by number, and lent itself: the number is the result.
+pub fn lend_tallied(
+    answer: Answer,
+    class: &mut u64,
+    shape: &mut u64,
+    pairings: &mut u64,
+    seen: &mut u64,
+    refused: &mut u64,
+    accepted: &mut u64,
+    rejected: &mut u64,
+) -> u64
+    ensures { record { answer = record { number = result; class = class.new; shape = shape.new; pairings = pairings.new }; tally = record { seen = seen.new; refused = refused.new; accepted = accepted.new; rejected = rejected.new } } ≡ tallied (record { seen = seen.old; refused = refused.old; accepted = accepted.old; rejected = rejected.old }) (answer_said answer) }
+{
+    let mut tally = Tally {
+        seen: *seen,
+        refused: *refused,
+        accepted: *accepted,
+        rejected: *rejected,
+    };
+    let answer = tallied(&mut tally, answer);
+    *seen = tally.seen;
+    *refused = tally.refused;
+    *accepted = tally.accepted;
+    *rejected = tally.rejected;
+    lend(answer, class, shape, pairings)
 }
