@@ -3,11 +3,13 @@ ghost use Rattle.std.specs.Prelude.{◌≡◌, length};
 ghost use Rattle.rules.specs.Market.{settings_of, market_of};
 ghost use Rattle.rules.specs.Crossing.{check_crossing};
 
-use crossing::cross;
+use crossing::{cross, said_of_crossing};
 use quote_check::check_slices;
+use resting::Crossing;
 use rules::Mills;
 
 // Checks a crossing quote. The number is the result; the flag, the three parts of the size and the fills are lent.
+#[tactic(auto, using(crossing::proofs::Laws::crossed_by_lem))]
 #[unsafe(no_mangle)]
 pub extern "C" fn opc_check_crossing_quote(
     symbol: &[u8],
@@ -30,20 +32,18 @@ pub extern "C" fn opc_check_crossing_quote(
     ensures { record { answer = record { number = result; cancel = cancel.new; executed = executed.new; booked = booked.new; cancelled = cancelled.new }; fills = fills.new } ≡ check_crossing (settings_of settings.now) (market_of market.now) symbol.now (record { 0 = bid }) (record { 0 = offer }) resting (record { sell = sell; size = size; prices = prices.now; sizes = sizes.now; away = record { 0 = away } }) (length fills.old) }
 {
     let quote = check_slices(symbol, Mills(bid), Mills(offer), resting, settings, market);
-    let answer = cross(
-        quote,
-        Mills(bid),
-        Mills(offer),
+    let crossing = Crossing {
         sell,
         size,
         prices,
         sizes,
-        Mills(away),
-        fills,
-    );
-    *cancel = answer.cancel;
-    *executed = answer.executed;
-    *booked = answer.booked;
-    *cancelled = answer.cancelled;
-    answer.number
+        away: Mills(away),
+    };
+    let answer = cross(quote, Mills(bid), Mills(offer), crossing, fills);
+    let said = said_of_crossing(answer);
+    *cancel = said.cancel;
+    *executed = said.executed;
+    *booked = said.booked;
+    *cancelled = said.cancelled;
+    said.number
 }

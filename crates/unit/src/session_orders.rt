@@ -4,11 +4,13 @@ ghost use Rattle.rules.specs.Market.{settings_of, market_of};
 ghost use Rattle.rules.specs.Tally.{order};
 ghost use Rattle.rules.specs.Session.{check_in_session};
 
+use answers::lend;
 use order_check::check_slices;
 use session::{count_order, turned_away};
 use terms::terms_of;
 
 // Checks an order of a login and counts it in the session, which is lent both ways.
+#[tactic(auto, unfolding(rules::specs::Session::check_in_session, rules::specs::Numbers::outcome))]
 #[unsafe(no_mangle)]
 pub extern "C" fn opc_check_order_session(
     login: u64,
@@ -29,18 +31,11 @@ pub extern "C" fn opc_check_order_session(
 ) -> u64
     ensures { record { answer = record { number = result; class = class.new; shape = shape.new; pairings = pairings.new }; session = session.new } ≡ check_in_session session.old login (order (record { settings = settings_of settings.now; market = market_of market.now; price = price; kind = kind; stop = stop; manual = manual; opening = opening; shares = shares }) symbols.now counts.now) }
 {
-    let turned = turned_away(true, session, login);
-    if turned != 0 {
-        *class = 0;
-        *shape = 0;
-        *pairings = 0;
-        return turned;
+    if let Err(refusal) = turned_away(true, session, login) {
+        return lend(Err(refusal), class, shape, pairings);
     }
     let terms = terms_of(price, kind, stop, manual, opening, shares);
     let answer = check_slices(symbols, counts, terms, settings, market);
-    count_order(session, login, answer.number);
-    *class = answer.class;
-    *shape = answer.shape;
-    *pairings = answer.pairings;
-    answer.number
+    count_order(session, login, answer);
+    lend(answer, class, shape, pairings)
 }

@@ -2,12 +2,14 @@
 ghost use Rattle.std.specs.Prelude.{◌≡◌};
 ghost use Rattle.rules.specs.Session.{start_session, release_login};
 
+use answers::number;
+
 // Starts a session of 32 logins with their limits. The number is the result.
 #[unsafe(no_mangle)]
 pub extern "C" fn opc_start_session(limits: &[u64], session: &mut [u64]) -> u64
     ensures { record { number = result; session = session.new } ≡ start_session limits.now session.old }
 {
-    session_start::start(limits, session)
+    number(session_start::start(limits, session))
 }
 
 // Releases a login. The number is the result.
@@ -15,5 +17,5 @@ pub extern "C" fn opc_start_session(limits: &[u64], session: &mut [u64]) -> u64
 pub extern "C" fn opc_release_login(login: u64, session: &mut [u64]) -> u64
     ensures { record { number = result; session = session.new } ≡ release_login session.old login }
 {
-    session::release(session, login)
+    number(session::release(session, login))
 }

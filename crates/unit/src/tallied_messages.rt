@@ -4,10 +4,10 @@ ghost use Rattle.rules.specs.Market.{settings_of, market_of};
 ghost use Rattle.rules.specs.Tally.{message as message_call, check_tallied};
 
 use fix_check::check_fix;
-use rules::Tally;
-use tally::tallied;
+use tally::lend_tallied;
 
 // Checks the order that a message says and adds it to a tally. The tally is lent both ways.
+#[tactic(auto, unfolding(rules::specs::Tally::check_tallied))]
 #[unsafe(no_mangle)]
 pub extern "C" fn opc_check_fix_tallied(
     message: &[u8],
@@ -26,20 +26,6 @@ pub extern "C" fn opc_check_fix_tallied(
 ) -> u64
     ensures { record { answer = record { number = result; class = class.new; shape = shape.new; pairings = pairings.new }; tally = record { seen = seen.new; refused = refused.new; accepted = accepted.new; rejected = rejected.new } } ≡ check_tallied (record { seen = seen.old; refused = refused.old; accepted = accepted.old; rejected = rejected.old }) (message_call (record { settings = settings_of settings.now; market = market_of market.now; stop = stop; manual = manual; opening = opening }) message.now) }
 {
-    let before = Tally {
-        seen: *seen,
-        refused: *refused,
-        accepted: *accepted,
-        rejected: *rejected,
-    };
     let answer = check_fix(message, stop, manual, opening, settings, market);
-    let after = tallied(before, answer);
-    *class = after.answer.class;
-    *shape = after.answer.shape;
-    *pairings = after.answer.pairings;
-    *seen = after.tally.seen;
-    *refused = after.tally.refused;
-    *accepted = after.tally.accepted;
-    *rejected = after.tally.rejected;
-    after.answer.number
+    lend_tallied(answer, class, shape, pairings, seen, refused, accepted, rejected)
 }

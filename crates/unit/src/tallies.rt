@@ -4,11 +4,11 @@ ghost use Rattle.rules.specs.Market.{settings_of, market_of};
 ghost use Rattle.rules.specs.Tally.{order, check_tallied};
 
 use order_check::check_slices;
-use rules::Tally;
-use tally::tallied;
+use tally::lend_tallied;
 use terms::terms_of;
 
 // Checks an order and adds it to a tally. The tally is lent both ways.
+#[tactic(auto, unfolding(rules::specs::Tally::check_tallied))]
 #[unsafe(no_mangle)]
 pub extern "C" fn opc_check_order_tallied(
     symbols: &[u8],
@@ -32,20 +32,6 @@ pub extern "C" fn opc_check_order_tallied(
     ensures { record { answer = record { number = result; class = class.new; shape = shape.new; pairings = pairings.new }; tally = record { seen = seen.new; refused = refused.new; accepted = accepted.new; rejected = rejected.new } } ≡ check_tallied (record { seen = seen.old; refused = refused.old; accepted = accepted.old; rejected = rejected.old }) (order (record { settings = settings_of settings.now; market = market_of market.now; price = price; kind = kind; stop = stop; manual = manual; opening = opening; shares = shares }) symbols.now counts.now) }
 {
     let terms = terms_of(price, kind, stop, manual, opening, shares);
-    let before = Tally {
-        seen: *seen,
-        refused: *refused,
-        accepted: *accepted,
-        rejected: *rejected,
-    };
     let answer = check_slices(symbols, counts, terms, settings, market);
-    let after = tallied(before, answer);
-    *class = after.answer.class;
-    *shape = after.answer.shape;
-    *pairings = after.answer.pairings;
-    *seen = after.tally.seen;
-    *refused = after.tally.refused;
-    *accepted = after.tally.accepted;
-    *rejected = after.tally.rejected;
-    after.answer.number
+    lend_tallied(answer, class, shape, pairings, seen, refused, accepted, rejected)
 }
