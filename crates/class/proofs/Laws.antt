@@ -1,6 +1,6 @@
 -- The class as the code computes it.
 use mathlib.Core.Path.{◌≡◌, refl, ◌∙◌}
-use mathlib.Core.List.{List, [], ◌∷◌}
+use mathlib.Core.List.{List, [], ◌∷◌, zip_with}
 use mathlib.Core.Bool.{Bool, true, false, cond, ◌&&◌}
 use Prim.Native.Nat.{ℕ, zero, suc, ◌+◌, ◌-◌, ◌*◌, ◌≤◌, ◌<◌, min, max}
 use native.Mathlib.Omega.{arith}
@@ -9,8 +9,8 @@ use lib.ListN.{length, take, get_or}
 use borrow.Author.Tests.{leb-true, leb-false, le-leb, lt-leb}
 use Rattle.rules.specs.declared.Leg.{Leg}
 use Rattle.rules.specs.Class.{strike_of, is_butterfly, has_own_class, class_with}
-use Rattle.keys.specs.Tags.{leg_at, legs_in}
-use Rattle.strikes.proofs.Listed.{shown}
+use Rattle.keys.specs.Tags.{leg_at, legs_from}
+use Rattle.strikes.proofs.Listed.{three, four_more, shown}
 
 leb_alike : (a b c d : ℕ) → (c ≤ d → a ≤ b) → (d < c → b < a) → leb a b ≡ leb c d
 leb_alike a b c d f g = go (leb c d) refl
@@ -40,28 +40,28 @@ module _ (a m b : Leg) {low high : ℕ}
       let puts = leb_alike low high twice sum (λ g. omega arith) (λ g. omega arith) in
       rw (← calls, ← puts, ← e, ← f) r
 
--- legs that are not three have the class of their pairs
-class_pairs : (a b c d : Leg) (r : List Leg) (n pairs : ℕ) → (n ≡ 3 → ⊥) → pairs ≡ class_with (take n (a ∷ b ∷ c ∷ d ∷ r)) pairs
-unfolding class_with
-class_pairs a b c d r zero pairs h = refl
-class_pairs a b c d r (suc zero) pairs h = refl
-class_pairs a b c d r (suc (suc zero)) pairs h = refl
-class_pairs a b c d r (suc (suc (suc zero))) pairs h = absurd (h refl)
-class_pairs a b c d r (suc (suc (suc (suc n)))) pairs h = refl
-
 -- The class by the legs that the code takes: it does not look at a root, so that of root 0 is that of any other.
-module _ (tags units : List ℕ) (long : length tags ≡ 16) (full : length units ≡ 16) (n pairs : ℕ) where
+module _ (tags units : List ℕ) (pairs : ℕ) where
   -- the leg that the code takes
   abbrev taken : ℕ → Leg
   taken i = leg_at 0 false (get_or tags i 0) (get_or units i 0)
 
-  abbrev Class : ℕ → Type 0
-  Class r = (root : ℕ) → r ≡ class_with (legs_in root false n tags units) pairs
+  abbrev pub Class : ℕ → Type 0
+  Class r = (root : ℕ) → r ≡ class_with (legs_from root false tags units) pairs
 
-  pub class_three : {a m b : Leg} {r : ℕ} → n ≡ 3 → a ≡ taken 0 → m ≡ taken 1 → b ≡ taken 2 → r ≡ class_with (a ∷ m ∷ b ∷ []) pairs → Class r
-  unfolding class_with has_own_class is_butterfly
-  class_three h a m b r root =
-      shown tags units long full root (λ ls. class_with ls pairs) n 3 h (r ∙ (λ i. class_with (a i ∷ m i ∷ b i ∷ []) pairs))
+  pub class_three : {a m b : Leg} {r : ℕ} → length tags ≡ length units → length tags ≡ 3 → a ≡ taken 0 → m ≡ taken 1 → b ≡ taken 2 → r ≡ class_with (a ∷ m ∷ b ∷ []) pairs → Class r
+  unfolding class_with has_own_class is_butterfly zip_with
+  class_three same h a m b r root =
+      shown (λ ls. class_with ls pairs) root (three tags h) (three units (omega arith)) (r ∙ (λ i. class_with (a i ∷ m i ∷ b i ∷ []) pairs))
 
-  pub class_other : (n ≡ 3 → ⊥) → Class pairs
-  class_other h root = shown tags units long full root (λ ls. class_with ls pairs) n n refl (class_pairs _ _ _ _ _ n pairs h)
+-- legs that are not three have the class of their pairs
+pub class_other : (tags units : List ℕ) (pairs : ℕ) → length tags ≡ length units → (length tags ≡ 3 → ⊥) → Class tags units pairs pairs
+unfolding class_with zip_with
+class_other [] units pairs same h root = refl
+class_other (t ∷ []) [] pairs same h root = refl
+class_other (t ∷ []) (u ∷ units) pairs same h root = refl
+class_other (t ∷ s ∷ []) [] pairs same h root = refl
+class_other (t ∷ s ∷ []) (u ∷ []) pairs same h root = refl
+class_other (t ∷ s ∷ []) (u ∷ v ∷ units) pairs same h root = refl
+class_other (t ∷ s ∷ r ∷ tags) units pairs same h root =
+    shown (λ ls. class_with ls pairs) root (four_more (t ∷ s ∷ r ∷ tags) (omega arith)) (four_more units (omega arith)) refl

@@ -4,7 +4,7 @@
 ghost use Rattle.std.specs.Prelude.{◌≡◌, false, [], ◌∷◌, ℕ, length};
 ghost use Rattle.rules.specs.Class.{has_own_class, class_with};
 ghost use Rattle.answers.specs.Answers.{class_number};
-ghost use Rattle.keys.specs.Tags.{legs_in};
+ghost use Rattle.keys.specs.Tags.{legs_from};
 
 use answers::Class;
 use keys::leg_at;
@@ -44,14 +44,12 @@ fn class_of_three(a: Leg, m: Leg, b: Leg, pairs: Class) -> Class
 
 // The class of unit legs in the first walk's sequence. `pairs` is the class that the pairs and loners of a walk give.
 #[tactic(auto, using(crate::proofs::Laws::class_three, crate::proofs::Laws::class_other))]
-pub fn class_of(tags: &[u64; 16], units: &[u64; 16], n: usize, pairs: Class) -> Class
-    ensures { (root : ℕ) → class_number result ≡ class_with (legs_in root false n tags.now units.now) (class_number pairs) }
+pub fn class_of(tags: &[u64], units: &[u64], pairs: Class) -> Class
+    requires { length tags.now ≡ length units.now }
+    ensures { (root : ℕ) → class_number result ≡ class_with (legs_from root false tags.now units.now) (class_number pairs) }
 {
-    if n == 3 {
-        let a = leg_at(tags[0], units[0]);
-        let m = leg_at(tags[1], units[1]);
-        let b = leg_at(tags[2], units[2]);
-        return class_of_three(a, m, b, pairs);
+    match (tags, units) {
+        ([a, m, b], [x, y, z]) => class_of_three(leg_at(*a, *x), leg_at(*m, *y), leg_at(*b, *z), pairs),
+        _ => pairs,
     }
-    pairs
 }

@@ -5,7 +5,7 @@ ghost use Rattle.std.specs.Prelude.{◌≡◌, false, [], ◌∷◌, ℕ, length
 ghost use Rattle.rules.specs.Pairing.{one_expiry};
 ghost use Rattle.rules.specs.Class.{opposite, is_vertical, between, is_butterfly, is_true_butterfly, is_box, shape_of};
 ghost use Rattle.answers.specs.Answers.{shape_number};
-ghost use Rattle.keys.specs.Tags.{legs_in};
+ghost use Rattle.keys.specs.Tags.{legs_from};
 
 use answers::Shape;
 use keys::leg_at;
@@ -124,22 +124,15 @@ fn shape_of_four(p: Leg, q: Leg, d: Leg, c: Leg) -> Shape
 }
 
 // The shape of unit legs in the first walk's sequence. Every shape has two to four legs.
-#[tactic(auto, using(crate::proofs::Laws::shape_other, crate::proofs::Laws::shape_two, crate::proofs::Laws::shape_three, crate::proofs::Laws::shape_four))]
-pub fn shape_of(tags: &[u64; 16], units: &[u64; 16], n: usize) -> Shape
-    ensures { (root : ℕ) → shape_number result ≡ shape_of (legs_in root false n tags.now units.now) }
+#[tactic(auto, using(crate::proofs::Laws::shape_other, crate::proofs::Laws::shape_two))]
+pub fn shape_of(tags: &[u64], units: &[u64]) -> Shape
+    requires { length tags.now ≡ length units.now }
+    ensures { (root : ℕ) → shape_number result ≡ shape_of (legs_from root false tags.now units.now) }
 {
-    if n < 2 || 4 < n {
-        return Shape::Other;
+    match (tags, units) {
+        ([a, b], [x, y]) => shape_of_two(leg_at(*a, *x), leg_at(*b, *y)),
+        ([a, m, b], [x, y, z]) => shape_of_three(leg_at(*a, *x), leg_at(*m, *y), leg_at(*b, *z)),
+        ([p, q, d, c], [w, x, y, z]) => shape_of_four(leg_at(*p, *w), leg_at(*q, *x), leg_at(*d, *y), leg_at(*c, *z)),
+        _ => Shape::Other,
     }
-    let a = leg_at(tags[0], units[0]);
-    let b = leg_at(tags[1], units[1]);
-    if n == 2 {
-        return shape_of_two(a, b);
-    }
-    let c = leg_at(tags[2], units[2]);
-    if n == 3 {
-        return shape_of_three(a, b, c);
-    }
-    let d = leg_at(tags[3], units[3]);
-    shape_of_four(a, b, c, d)
 }

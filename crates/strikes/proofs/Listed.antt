@@ -1,35 +1,39 @@
--- The first legs of the arrays, one by one.
+-- Lists of few numbers, one by one, and the legs of such lists.
 use mathlib.Core.Path.{◌≡◌, sym, ap, ap₂, ◌∙◌}
-use mathlib.Core.List.{List, ◌∷◌, zip_with}
+use mathlib.Core.List.{List, [], ◌∷◌}
 use mathlib.Core.Bool.{false}
-use Prim.Native.Nat.{ℕ, suc, ◌<◌}
+use Prim.Native.Nat.{ℕ, suc, ◌<◌, ◌≤◌}
 use native.Mathlib.Omega.{arith}
-use lib.ListN.{length, take, drop, get_or}
+use lib.ListN.{length, drop, get_or}
 use lib.Seq.{drop-cons}
+use Rattle.std.proofs.lemmas.List.{drop_all}
 use Rattle.rules.specs.declared.Leg.{Leg}
-use Rattle.keys.specs.Tags.{leg_at, legs_from, legs_in}
+use Rattle.keys.specs.Tags.{legs_from}
 
--- five numbers, and what stands behind them
-module _ (xs : List ℕ) (long : length xs ≡ 16) where
-  next : (i : ℕ) → i < 16 → drop i xs ≡ get_or xs i 0 ∷ drop (suc i) xs
-  next i h = drop-cons xs i 0 (omega arith)
+module _ (xs : List ℕ) where
+  next : (i : ℕ) → i < length xs → drop i xs ≡ get_or xs i 0 ∷ drop (suc i) xs
+  next i h = drop-cons xs i 0 h
 
-  five : xs ≡ get_or xs 0 0 ∷ get_or xs 1 0 ∷ get_or xs 2 0 ∷ get_or xs 3 0 ∷ get_or xs 4 0 ∷ drop 5 xs
-  five =
-      rw (← next 4 (omega arith), ← next 3 (omega arith), ← next 2 (omega arith), ← next 1 (omega arith), ← next 0 (omega arith))
+  two_more : 2 ≤ length xs → xs ≡ get_or xs 0 0 ∷ get_or xs 1 0 ∷ drop 2 xs
+  two_more h = rw (← next 1 (omega arith), ← next 0 (omega arith))
 
-module _ (tags units : List ℕ) (long : length tags ≡ 16) (full : length units ≡ 16) (root : ℕ) where
-  abbrev pub at : ℕ → Leg
-  at i = leg_at root false (get_or tags i 0) (get_or units i 0)
+  pub four_more : 4 ≤ length xs → xs ≡ get_or xs 0 0 ∷ get_or xs 1 0 ∷ get_or xs 2 0 ∷ get_or xs 3 0 ∷ drop 4 xs
+  four_more h = rw (← next 3 (omega arith), ← next 2 (omega arith), ← next 1 (omega arith), ← next 0 (omega arith))
 
-  abbrev pub listed : List Leg
-  listed = at 0 ∷ at 1 ∷ at 2 ∷ at 3 ∷ at 4 ∷ legs_from root false (drop 5 tags) (drop 5 units)
+  pub five_more : 5 ≤ length xs → xs ≡ get_or xs 0 0 ∷ get_or xs 1 0 ∷ get_or xs 2 0 ∷ get_or xs 3 0 ∷ get_or xs 4 0 ∷ drop 5 xs
+  five_more h = rw (← next 4 (omega arith)) (four_more (omega arith))
 
-  legs_listed : legs_from root false tags units ≡ listed
-  unfolding zip_with
-  legs_listed = ap₂ (legs_from root false) (five tags long) (five units full)
+  pub two : length xs ≡ 2 → xs ≡ get_or xs 0 0 ∷ get_or xs 1 0 ∷ []
+  two h = rw (← drop_all 2 xs (omega arith)) (two_more (omega arith))
 
-  -- what is so of the first legs is so of the legs that the arrays carry
-  pub shown : (f : List Leg → ℕ) (m n : ℕ) {r : ℕ} → m ≡ n → r ≡ f (take n listed) → r ≡ f (legs_in root false m tags units)
-  shown f m n e h =
-      h ∙ ap (λ (ls : List Leg). f (take n ls)) (sym legs_listed) ∙ ap (λ (k : ℕ). f (legs_in root false k tags units)) (sym e)
+  pub three : length xs ≡ 3 → xs ≡ get_or xs 0 0 ∷ get_or xs 1 0 ∷ get_or xs 2 0 ∷ []
+  three h = rw (← drop_all 3 xs (omega arith), ← next 2 (omega arith)) (two_more (omega arith))
+
+  pub four : length xs ≡ 4 → xs ≡ get_or xs 0 0 ∷ get_or xs 1 0 ∷ get_or xs 2 0 ∷ get_or xs 3 0 ∷ []
+  four h = rw (← drop_all 4 xs (omega arith)) (four_more (omega arith))
+
+-- what is so of the numbers one by one is so of the legs that the lists carry
+pub shown : (f : List Leg → ℕ) (root : ℕ) {tags units ts us : List ℕ} {r : ℕ} → tags ≡ ts → units ≡ us
+    → r ≡ f (legs_from root false ts us)
+    → r ≡ f (legs_from root false tags units)
+shown f root e g h = h ∙ sym (ap₂ (λ (xs ys : List ℕ). f (legs_from root false xs ys)) e g)

@@ -5,7 +5,7 @@
 ghost use Rattle.std.specs.Prelude.{◌≡◌, false, List, ℕ, ◌+◌, ◌-◌, ◌≤◌, min, max, length};
 ghost use Rattle.rules.specs.Class.{strike_of};
 ghost use Rattle.rules.specs.Checks.{maximum_of};
-ghost use Rattle.keys.specs.Tags.{leg_at, legs_in};
+ghost use Rattle.keys.specs.Tags.{leg_at, legs_from};
 
 use keys::leg_at;
 
@@ -33,20 +33,14 @@ fn strike_at(tag: u64) -> u64
 
 // M of check 24, of unit legs in the first walk's sequence. Three legs are taken for a butterfly, more for a box with
 // its calls last, from the highest strike down.
-#[tactic(auto, using(crate::proofs::Laws::maximum_two, crate::proofs::Laws::maximum_three, crate::proofs::Laws::maximum_four))]
-pub fn maximum_of(tags: &[u64; 16], n: usize) -> u64
-    requires { 2 ≤ n }
-    ensures { (root : ℕ) (units : List ℕ) → length units ≡ 16 → result ≡ maximum_of (legs_in root false n tags.now units) }
+#[tactic(auto, using(crate::proofs::Laws::maximum_none, crate::proofs::Laws::maximum_two, crate::proofs::Laws::maximum_three, crate::proofs::Laws::maximum_four))]
+pub fn maximum_of(tags: &[u64]) -> u64
+    ensures { (root : ℕ) (units : List ℕ) → length units ≡ length tags.now → result ≡ maximum_of (legs_from root false tags.now units) }
 {
-    let a = strike_at(tags[0]);
-    let b = strike_at(tags[1]);
-    if n == 2 {
-        return a.abs_diff(b);
+    match *tags {
+        [a, b] => strike_at(a).abs_diff(strike_at(b)),
+        [a, m, b] => above_lower(strike_at(a), strike_at(m), strike_at(b)),
+        [_, _, d, c, ..] => strike_at(d).saturating_sub(strike_at(c)),
+        _ => 0,
     }
-    let c = strike_at(tags[2]);
-    if n == 3 {
-        return above_lower(a, b, c);
-    }
-    let d = strike_at(tags[3]);
-    c.saturating_sub(d)
 }
