@@ -1,41 +1,50 @@
--- The sum of sizes, and check 22, test for test.
+-- Check 22 by tags and unit counts.
 use mathlib.Core.Path.{◌≡◌, refl, sym, ap, ◌∙◌}
-use mathlib.Core.List.{List, [], ◌∷◌}
-use mathlib.Core.Bool.{Bool, true, false, cond, not, ◌&&◌, ◌||◌}
+use mathlib.Core.List.{List, [], ◌∷◌, zip_with}
+use mathlib.Core.Bool.{Bool, true, false, not, ◌&&◌, ◌||◌}
 use Prim.Native.Nat.{ℕ, ◌+◌, ◌*◌, ◌<◌, ◌≤◌}
 use native.Mathlib.Omega.{arith}
-use lib.ListN.{length, take, drop, get_or}
-use lib.Seq.{length-take-le}
+use lib.ListN.{length, get_or}
 use lib.Dec.{eqb}
+use Rattle.std.specs.List.{list_all, sum}
+use Rattle.std.proofs.lemmas.List.Sums.{sum_by-cons}
 use Rattle.rules.specs.declared.Terms.{Terms}
 use Rattle.rules.specs.declared.Leg.{Leg}
 use Rattle.rules.specs.declared.Settings.{Settings}
 use Rattle.rules.specs.Lists.{All, same_bool, all, every}
-use Rattle.rules.specs.Order.{is_complex, no_leg}
+use Rattle.rules.specs.Order.{is_complex}
 use Rattle.rules.specs.Checks.{sizes, is_below, shares_on, same_side_below, buy_buy}
-use Rattle.rules.specs.Valid.{ComplexOrder}
+use Rattle.rules.specs.Valid.{UnitWithin, ComplexOrder}
 use Rattle.rules.proofs.Tests.{and_true, or_false}
-use Rattle.loops.proofs.Finding.{step, over}
-use Rattle.keys.specs.Tags.{is_bought, legs_in}
-use Rattle.buy_buy.proofs.Legs.{first_side, total, complex_root}
+use Rattle.laws.proofs.Simple.{simple_same}
+use Rattle.keys.specs.Tags.{is_bought, leg_at, legs_from}
+use Rattle.arranging.proofs.Zip.{zip_length}
 
--- ---- the sum of sizes
+-- sides are the tags'
+sides_of : (root : ℕ) (f : Bool → Bool) (tags units : List ℕ) → length tags ≡ length units
+    → all (λ u. f u.bought) (legs_from root false tags units) ≡ list_all (λ t. f (is_bought t)) tags
+unfolding all zip_with
+sides_of root f [] units e = refl
+sides_of root f (t ∷ tags) [] e = absurd (omega arith)
+sides_of root f (t ∷ tags) (u ∷ units) e = ap (λ (b : Bool). f (is_bought t) && b) (sides_of root f tags units (omega arith))
 
-module _ (xs : List ℕ) (n : ℕ) (few : n ≤ 16) (full : length xs ≡ 16) where
-  pub total_turn : (sum i : ℕ) → i < n → (sum + get_or xs i 0) + total (drop (i + 1) (take n xs)) ≡ sum + total (drop i (take n xs))
-  total_turn sum i h = rw (step 0 xs n (omega arith) i h) (omega arith)
+-- sizes are the unit counts
+sizes_of_lem : (root : ℕ) (tags units : List ℕ) → length tags ≡ length units → sizes (legs_from root false tags units) ≡ sum units
+unfolding sizes zip_with
+sizes_of_lem root [] [] e = refl
+sizes_of_lem root [] (u ∷ units) e = absurd (omega arith)
+sizes_of_lem root (t ∷ tags) [] e = absurd (omega arith)
+sizes_of_lem root (t ∷ tags) (u ∷ units) e =
+    ap (λ (s : ℕ). u + s) (sizes_of_lem root tags units (omega arith)) ∙ sym (sum_by-cons (λ x. x) u units)
 
-  pub total_end : (sum i : ℕ) → n ≤ i → sum ≡ sum + total (drop i (take n xs))
-  total_end sum i h = rw (over 0 xs n (omega arith) i h) (omega arith)
-
-  pub total_small : All (λ s. s ≤ 10000) (take n xs) → total (take n xs) ≤ 160000
-  total_small h = omega (arith, bound (take n xs) h, length-take-le n xs (omega arith))
-    where
-      bound : (ys : List ℕ) → All (λ s. s ≤ 10000) ys → total ys ≤ 10000 * length ys
-      bound [] k = omega arith
-      bound (y ∷ ys) k = omega (arith, k.0, bound ys k.1)
-
--- ---- check 22
+-- and small, as each is
+sum_bound : (tags units : List ℕ) → length tags ≡ length units → All UnitWithin (legs_from 0 false tags units) → sum units ≤ 10000 * length units
+unfolding zip_with
+sum_bound [] [] e h = omega arith
+sum_bound [] (u ∷ units) e h = absurd (omega arith)
+sum_bound (t ∷ tags) [] e h = absurd (omega arith)
+sum_bound (t ∷ tags) (u ∷ units) e h =
+    omega (arith, h.0.size, sum_bound tags units (omega arith) h.1, sum_by-cons (λ x. x) u units)
 
 -- legs of one side are of the first leg's
 either_side : (b : Bool) (on below : Bool → Bool)
@@ -43,47 +52,42 @@ either_side : (b : Bool) (on below : Bool → Bool)
 either_side true on below = or_false _
 either_side false on below = refl
 
-below_grouped : (limit shares on below : Bool) → not (not limit) && ((on && (shares && (below && true))) && true) ≡ cond (limit && (shares && on)) below false
+below_grouped : (limit shares on below : Bool) → not (not limit) && ((on && (shares && (below && true))) && true) ≡ limit && (shares && (on && below))
 below_grouped true true true below = and_true _ ∙ and_true below
 below_grouped true true false below = refl
 below_grouped true false true below = refl
 below_grouped true false false below = refl
 below_grouped false shares on below = refl
 
--- whether check 22 looks at the amount: a limit order, with shares and options on this side
-abbrev is_looked : Terms → List Leg → Bool → Bool
-is_looked t us side = eqb t.kind 0 && (shares_on side t && all (λ u. same_bool side u.bought) us)
-
 read_first : (st : Settings) (t : Terms) (x : Leg) (ls : List Leg) → is_complex t (x ∷ ls) ≡ true
-    → buy_buy st t (x ∷ ls) ≡ cond (is_looked t (x ∷ ls) x.bought) (is_below x.bought t.price (sizes (x ∷ ls) * st.increment.0)) false
+    → buy_buy st t (x ∷ ls) ≡ eqb t.kind 0 && (shares_on x.bought t && (all (λ u. same_bool x.bought u.bought) (x ∷ ls) && is_below x.bought t.price (sizes (x ∷ ls) * st.increment.0)))
 unfolding buy_buy every same_side_below all
 read_first st t x ls c =
     let grouped = below_grouped (eqb t.kind 0) (shares_on x.bought t) (all (λ u. same_bool x.bought u.bought) (x ∷ ls)) _ in
     rw (c, either_side x.bought (λ side. all (λ u. same_bool side u.bought) ls) (λ side. shares_on side t && (is_below side t.price (sizes (x ∷ ls) * st.increment.0) && true))) grouped
 
-read : (st : Settings) (t : Terms) (us : List Leg) (side : Bool) → is_complex t us ≡ true → 1 ≤ length us → side ≡ (get_or us 0 no_leg).bought
-    → buy_buy st t us ≡ cond (is_looked t us side) (is_below side t.price (sizes us * st.increment.0)) false
-read st t [] side c h first = absurd (omega arith)
-read st t (x ∷ ls) side c h first =
-    read_first st t x ls c ∙ ap (λ (b : Bool). cond (is_looked t (x ∷ ls) b) (is_below b t.price (sizes (x ∷ ls) * st.increment.0)) false) (sym first)
+module _ (st : Settings) (t : Terms) (tags units : List ℕ) (same : length tags ≡ length units) (order : ComplexOrder st t (legs_from 0 false tags units)) where
+  many : (root : ℕ) → length (legs_from root false tags units) ≡ length tags
+  many root = zip_length (leg_at root false) tags units same
 
--- the code's answer
-module _ (st : Settings) (t : Terms) (n : ℕ) (tags units : List ℕ) (full : length tags ≡ 16) (counted : length units ≡ 16) (order : ComplexOrder st t (legs_in 0 false n tags units)) (root : ℕ) where
-  abbrev legs : List Leg
-  legs = legs_in root false n tags units
+  pub some : 0 < length tags
+  some = omega (arith, many 0, order.some)
 
-  module _ {side shares options on b : Bool}
-      (g : side ≡ is_bought (get_or tags 0 0))
-      (s : shares ≡ shares_on side t)
-      (e : options ≡ all (λ u. same_bool side u.bought) legs)
-      (j : on ≡ shares && options)
-      (f : b ≡ eqb t.kind 0 && on)
-    where
-      legs_read : buy_buy st t legs ≡ cond (is_looked t legs side) (is_below side t.price (sizes legs * st.increment.0)) false
-      legs_read = let o = complex_root st t 0 root n tags units order in read st t legs side o.complex o.some (g ∙ first_side root n tags units full counted o.some)
+  pub sum_small : sum units ≤ 160000
+  sum_small = omega (arith, many 0, order.few, sum_bound tags units same order.each)
 
-      pub buy_buy_tested : {r : Bool} → b ≡ true → r ≡ is_below side t.price (sizes legs * st.increment.0) → r ≡ buy_buy st t legs
-      buy_buy_tested h k = cc legs_read
+  -- whatever the legs' root
+  pub complex : (root : ℕ) → is_complex t (legs_from root false tags units) ≡ true
+  complex root = ap not (simple_same t _ _ (many root ∙ sym (many 0))) ∙ order.complex
 
-      pub buy_buy_untested : b ≡ false → false ≡ buy_buy st t legs
-      buy_buy_untested h = cc legs_read
+-- the tests as the code makes them
+pub buy_buy_read : (st : Settings) (t : Terms) (tags units : List ℕ) (same : length tags ≡ length units) (order : ComplexOrder st t (legs_from 0 false tags units)) (side : Bool)
+    → side ≡ is_bought (get_or tags 0 0)
+    → (root : ℕ)
+    → buy_buy st t (legs_from root false tags units) ≡ eqb t.kind 0 && (shares_on side t && (list_all (λ x. same_bool side (is_bought x)) tags && is_below side t.price (sum units * st.increment.0)))
+unfolding zip_with
+buy_buy_read st t [] units same order side h root = absurd (omega (arith, some st t [] units same order))
+buy_buy_read st t (x ∷ tags) [] same order side h root = absurd (omega arith)
+buy_buy_read st t (x ∷ tags) (u ∷ units) same order side h root =
+    rw (h, ← sides_of root (same_bool (is_bought x)) (x ∷ tags) (u ∷ units) same, ← sizes_of_lem root (x ∷ tags) (u ∷ units) same)
+    (read_first st t _ _ (complex st t (x ∷ tags) (u ∷ units) same order root))

@@ -37,8 +37,8 @@ pub fn classify(
 {
     units(&left[..n], &mut counts[..n]);
     let paired = both_walks(&tags[..n], &mut left[..n], european);
-    let class = class_of(tags, counts, n, paired.class);
-    let shape = shape_of(tags, counts, n);
+    let class = class_of(&tags[..n], &counts[..n], paired.class);
+    let shape = shape_of(&tags[..n], &counts[..n]);
     Classified {
         class,
         shape,

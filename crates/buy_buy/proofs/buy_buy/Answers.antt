@@ -1,30 +1,33 @@
 -- Legs of one side are of the first leg's, and their sum times the increment fits.
-use Rattle.std.proofs.Common.{ℕ, ◌*◌, sym, ap, ◌∙◌, arith}
-use Rattle.std.proofs.Math.Nat.{mul-le-mul}
-use Rattle.rules.specs.Checks.{is_below}
+use Rattle.std.proofs.Common.{arith}
+use Rattle.std.proofs.lemmas.Nat.{mul-le}
+use Rattle.std.proofs.lemmas.Grind.{common_steps}
 use Rattle.laws.proofs.Bounds.{settings_bounds}
-use Rattle.buy_buy.proofs.Legs.{sizes_of_lem}
-use Rattle.buy_buy.proofs.Laws.{buy_buy_tested, buy_buy_untested}
+use Rattle.buy_buy.proofs.Laws.{some, sum_small, buy_buy_read}
 use Rattle.buy_buy.proofs.buy_buy.Goals as goal
 
-pub sizes-contracts-requires : goal.sizes-contracts-requires
-sizes-contracts-requires c =
-    let a = c.args in
-    let r = c.requires in
-    (r.0, r.2, (sizes_of_lem 0 a.n a.tags.now a.units.now (r.1 ∙ sym r.2)).1 r.3.each)
+pub bounds-tags-0 : goal.bounds-tags-0
+bounds-tags-0 c = let a = c.args in some a.st a.t a.tags.now a.units.now c.requires.0 c.requires.1
 
-pub overflow_mul-contracts : goal.overflow_mul-contracts
-overflow_mul-contracts c = omega (arith, mul-le-mul c.sizes-contracts.ensures.1 (settings_bounds c.args.st c.requires.3.settings).increment)
-
-pub returns-then-both : goal.returns-then-both
-returns-then-both c = λ root.
+pub sizes-requires : goal.sizes-requires
+sizes-requires c =
     let a = c.args in
-    let r = c.requires in
-    let below = ap (λ (n : ℕ). is_below c.is_bought-side.result a.t.price (n * a.st.increment.0)) (c.sizes-contracts.ensures.0 root a.tags.now r.1) in
-    buy_buy_tested a.st a.t a.n a.tags.now a.units.now r.1 r.2 r.3 root c.is_bought-side.ensures c.shares_on-shares.ensures (c.all_on.ensures root a.units.now r.2) c.both-on.ensures c.both.ensures c.if-both.true (c.is_below.ensures ∙ below)
+    omega (arith, sum_small a.st a.t a.tags.now a.units.now c.requires.0 c.requires.1)
 
-pub returns : goal.returns
-returns c = λ root.
+pub overflow_mul-sizes : goal.overflow_mul-sizes
+overflow_mul-sizes c =
     let a = c.args in
-    let r = c.requires in
-    buy_buy_untested a.st a.t a.n a.tags.now a.units.now r.1 r.2 r.3 root c.is_bought-side.ensures c.shares_on-shares.ensures (c.all_on.ensures root a.units.now r.2) c.both-on.ensures c.both.ensures c.if-both.false
+    let s = sum_small a.st a.t a.tags.now a.units.now c.requires.0 c.requires.1 in
+    omega (arith, c.sizes.ensures, mul-le c.sizes.result a.st.increment.0 160000 1000 (omega (arith, c.sizes.ensures, s)) (settings_bounds a.st c.requires.1.settings).increment)
+
+pub returns-then-all_on : goal.returns-then-all_on
+returns-then-all_on c = λ root.
+    let a = c.args in
+    let r = buy_buy_read a.st a.t a.tags.now a.units.now c.requires.0 c.requires.1 c.is_bought-side.result c.is_bought-side.ensures root in
+    grind (arith, common_steps)
+
+pub returns-else-all_on : goal.returns-else-all_on
+returns-else-all_on c = λ root.
+    let a = c.args in
+    let r = buy_buy_read a.st a.t a.tags.now a.units.now c.requires.0 c.requires.1 c.is_bought-side.result c.is_bought-side.ensures root in
+    grind (arith, common_steps)
