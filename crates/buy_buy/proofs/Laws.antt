@@ -80,14 +80,21 @@ module _ (st : Settings) (t : Terms) (tags units : List ℕ) (same : length tags
   pub complex : (root : ℕ) → is_complex t (legs_from root false tags units) ≡ true
   complex root = ap not (simple_same t _ _ (many root ∙ sym (many 0))) ∙ order.complex
 
--- the tests as the code makes them
+-- the tests as the code makes them, of legs on a side
+abbrev tested : Settings → Terms → List ℕ → List ℕ → Bool → Bool
+tested st t tags units side =
+    eqb t.kind 0 && (shares_on side t && (list_all (λ x. same_bool side (is_bought x)) tags && is_below side t.price (sum units * st.increment.0)))
+
 pub buy_buy_read : (st : Settings) (t : Terms) (tags units : List ℕ) (same : length tags ≡ length units) (order : ComplexOrder st t (legs_from 0 false tags units)) (side : Bool)
     → side ≡ is_bought (get_or tags 0 0)
     → (root : ℕ)
-    → buy_buy st t (legs_from root false tags units) ≡ eqb t.kind 0 && (shares_on side t && (list_all (λ x. same_bool side (is_bought x)) tags && is_below side t.price (sum units * st.increment.0)))
+    → buy_buy st t (legs_from root false tags units) ≡ tested st t tags units side
 unfolding zip_with
 buy_buy_read st t [] units same order side h root = absurd (omega (arith, some st t [] units same order))
 buy_buy_read st t (x ∷ tags) [] same order side h root = absurd (omega arith)
 buy_buy_read st t (x ∷ tags) (u ∷ units) same order side h root =
-    rw (h, ← sides_of root (same_bool (is_bought x)) (x ∷ tags) (u ∷ units) same, ← sizes_of_lem root (x ∷ tags) (u ∷ units) same)
-    (read_first st t _ _ (complex st t (x ∷ tags) (u ∷ units) same order root))
+    let first : buy_buy st t (legs_from root false (x ∷ tags) (u ∷ units)) ≡ tested st t (x ∷ tags) (u ∷ units) (is_bought x) =
+        rw (← sides_of root (same_bool (is_bought x)) (x ∷ tags) (u ∷ units) same, ← sizes_of_lem root (x ∷ tags) (u ∷ units) same)
+        (read_first st t _ _ (complex st t (x ∷ tags) (u ∷ units) same order root))
+    in
+    first ∙ ap (tested st t (x ∷ tags) (u ∷ units)) (sym h)
