@@ -1,30 +1,33 @@
--- The definition's checks, one after another: those of simple orders do not apply to complex ones.
-use Rattle.std.proofs.Common.{◌∙◌}
-use Rattle.rules.specs.Order.{is_yes}
-use Rattle.rules.specs.Checks.{put_test, call_test}
-use Rattle.rules.specs.Numbers.{rejection}
-use Rattle.chain.proofs.Laws.{passed, chained}
-use Rattle.buy_buy.proofs.Legs.{complex_root}
-use Rattle.laws.proofs.Simple.{no_simple_buy, no_tick_distance}
-use Rattle.complex_checks.proofs.Laws.{shape_root, maximum_legs}
+-- The legs make a complex order, whatever their root.
+use Rattle.std.proofs.Common.{false, ◌∙◌, rules}
+use Rattle.rules.specs.Numbers.{first_of}
+use Rattle.keys.specs.Tags.{legs_from}
+use Rattle.answers.specs.Answers.{class_number}
+use Rattle.buy_buy.proofs.Laws.{complex}
+use Rattle.complex_checks.proofs.Laws.{of_complex, shape_root}
 use Rattle.complex_checks.proofs.rejection.Goals as goal
 
-pub maximum_value-over-requires : goal.maximum_value-over-requires
-maximum_value-over-requires c =
-    let r = c.requires in
-    (r.3.settings, maximum_legs c.args.n c.args.tags.now c.args.units.now r.4, r.1)
+pub returns-in_err-fail_if : goal.returns-in_err-fail_if
+unfolding first_of
+returns-in_err-fail_if c root m =
+    let a = c.args in
+    let us = legs_from root false a.tags.now a.units.now in
+    let k = complex a.st a.t a.tags.now a.units.now c.requires.0 c.requires.1 root in
+    rw (← of_complex a.st m a.t us (class_number a.class) k) (search rules)
+
+pub returns-in_err-fail_if-2 : goal.returns-in_err-fail_if-2
+unfolding first_of
+returns-in_err-fail_if-2 c root m =
+    let a = c.args in
+    let us = legs_from root false a.tags.now a.units.now in
+    let k = complex a.st a.t a.tags.now a.units.now c.requires.0 c.requires.1 root in
+    rw (← of_complex a.st m a.t us (class_number a.class) k) (search rules)
 
 pub returns : goal.returns
-unfolding rejection
-returns c = λ root m.
+unfolding first_of
+returns c root m =
     let a = c.args in
-    let st = a.st in
-    let r = c.requires in
-    let none = (complex_root st a.t 0 root a.n a.tags.now a.units.now r.3).complex in
-    chained _ _
-    (passed (no_simple_buy a.t _ none (is_yes st.check20) put_test) _ 20 _
-    ∙ passed (no_simple_buy a.t _ none (is_yes st.check21) (call_test (is_yes st.adjusted) m)) _ 21 _
-    ∙ c.checked-found.ensures _ (c.buy_buy.ensures root) _
-    ∙ c.checked-found-2.ensures _ (c.debit_credit.ensures _ none) _
-    ∙ c.checked.ensures _ (c.maximum_value-over.ensures root a.units.now r.2 (r.4 ∙ shape_root root a.n a.tags.now a.units.now)) _
-    ∙ passed (no_tick_distance a.t _ none (is_yes st.check25) st m) _ 25 _)
+    let us = legs_from root false a.tags.now a.units.now in
+    let k = complex a.st a.t a.tags.now a.units.now c.requires.0 c.requires.1 root in
+    let s = c.requires.2 ∙ shape_root root a.tags.now a.units.now in
+    rw (← of_complex a.st m a.t us (class_number a.class) k) (search rules)
