@@ -6,26 +6,31 @@ ghost use Rattle.rules.specs.declared.Market.{Market};
 ghost use Rattle.rules.specs.Order.{is_simple, is_complex};
 ghost use Rattle.rules.specs.Market.{settings_hold, market_holds};
 ghost use Rattle.rules.specs.Numbers.{judged};
+ghost use Rattle.answers.specs.Answers.{judged_said};
 ghost use Rattle.keys.specs.Tags.{leg_at, legs_in, ValidTags};
 
-use amounts::pick;
+use answers::{Class, Judged, Shape};
 use classify::classify;
 use keys::leg_at;
-use rules::{Market, OrderAnswer, Settings, Terms};
+use rules::{Market, Settings, Terms};
 use terms::is_simple;
 
 // A simple order has nothing to divide or to pair: one unit of it is judged, whatever its contracts.
-fn judge_simple(st: Settings, m: Market, t: Terms, tag: u64) -> OrderAnswer
+fn judge_simple(st: Settings, m: Market, t: Terms, tag: u64) -> Judged
     requires { (settings_hold st ≡ true)
         × (market_holds m ≡ true)
         × (is_simple t (leg_at 0 false tag 1 ∷ []) ≡ true) }
-    ensures { (root size : ℕ) → 1 ≤ size → result ≡ judged st m t (leg_at root false tag size ∷ []) }
+    ensures { (root size : ℕ) → 1 ≤ size → judged_said result ≡ judged st m t (leg_at root false tag size ∷ []) }
 {
     let unit = leg_at(tag, 1);
-    OrderAnswer {
-        number: simple_checks::rejection(st, m, t, unit),
-        class: pick(unit.bought, 1, 2),
-        shape: 0,
+    Judged {
+        verdict: simple_checks::rejection(st, m, t, unit),
+        class: if unit.bought {
+            Class::Debit
+        } else {
+            Class::Credit
+        },
+        shape: Shape::Other,
         pairings: 0,
     }
 }
@@ -37,17 +42,17 @@ fn judge_complex(
     tags: &[u64; 16],
     left: &mut [u64; 16],
     n: usize,
-) -> OrderAnswer
+) -> Judged
     requires { (settings_hold st ≡ true)
         × ValidTags n tags.now left.old
         × (1 ≤ n)
         × (is_complex t (legs_in 0 false n tags.now left.old) ≡ true) }
-    ensures { (root : ℕ) (m : Market) → result ≡ judged st m t (legs_in root false n tags.now left.old) }
+    ensures { (root : ℕ) (m : Market) → judged_said result ≡ judged st m t (legs_in root false n tags.now left.old) }
 {
     let mut units = [0u64; 16];
     let c = classify(tags, left, n, st.european != 0, &mut units);
-    OrderAnswer {
-        number: complex_checks::rejection(st, t, tags, &units, n, c.class, c.shape),
+    Judged {
+        verdict: complex_checks::rejection(st, t, &tags[..n], &units[..n], c.class, c.shape),
         class: c.class,
         shape: c.shape,
         pairings: c.pairings,
@@ -63,13 +68,13 @@ pub fn judge(
     tags: &[u64; 16],
     left: &mut [u64; 16],
     n: usize,
-) -> OrderAnswer
+) -> Judged
     requires { (settings_hold st ≡ true) × (market_holds m ≡ true) × ValidTags n tags.now left.old × (1 ≤ n) }
-    ensures { (root : ℕ) → result ≡ judged st m t (legs_in root false n tags.now left.old) }
+    ensures { (root : ℕ) → judged_said result ≡ judged st m t (legs_in root false n tags.now left.old) }
 {
-    let simple = is_simple(t, n);
-    if simple {
-        return judge_simple(st, m, t, tags[0]);
+    if is_simple(t, n) {
+        judge_simple(st, m, t, tags[0])
+    } else {
+        judge_complex(st, t, tags, left, n)
     }
-    judge_complex(st, t, tags, left, n)
 }

@@ -2,7 +2,7 @@
 use Rattle.judge.proofs.Laws.{judged_leg}
 use Rattle.judge.proofs.judge.Goals as goal
 
-pub returns-then-simple : goal.returns-then-simple
-returns-then-simple c = λ root.
+pub returns-then-is_simple : goal.returns-then-is_simple
+returns-then-is_simple c = λ root.
     let a = c.args in
-    judged_leg a.t a.n a.tags.now a.left.now c.requires.2 c.is_simple-simple.ensures c.if-simple.true a.st a.m root c.judge_simple.ensures
+    judged_leg a.t a.n a.tags.now a.left.now c.requires.2 c.is_simple.ensures c.if-is_simple.true a.st a.m root c.judge_simple.ensures

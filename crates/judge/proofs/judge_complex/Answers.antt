@@ -1,4 +1,7 @@
 -- The unit legs of a valid order, and its numbers one by one.
+use Rattle.std.proofs.Common.{◌≡◌, ◌∙◌, sym, length, arith}
+use Rattle.std.proofs.Math.Seq.{length-take-le}
+use Rattle.arranging.proofs.Zip.{zip_take}
 use Rattle.judge.proofs.Laws.{complex_units, judged_by}
 use Rattle.judge.proofs.judge_complex.Goals as goal
 
@@ -6,10 +9,16 @@ pub rejection-requires : goal.rejection-requires
 rejection-requires c =
     let a = c.args in
     let r = c.requires in
-    let k = c.classify-c.ensures in
-    (r.1.valid.few, r.1.valid.full, k.1, complex_units a.st a.t a.n a.tags.now a.left.now _ r.0 r.1 r.2 r.3 (k.0 0).counts, (k.0 0).shape)
+    let k = c.classify-c.ensures 0 in
+    let few = r.1.valid.few in
+    let full = r.1.valid.full in
+    (
+      length-take-le a.n a.tags.now (omega arith) ∙ sym (length-take-le a.n _ (omega arith)),
+      rw (← zip_take) (complex_units a.st a.t a.n a.tags.now a.left.now _ r.0 r.1 r.2 r.3 k.counts),
+      rw (← zip_take) k.shape,
+    )
 
 pub returns : goal.returns
 returns c = λ root m.
-    let k = c.classify-c.ensures.0 root in
-    judged_by c.args.st m c.args.t _ _ k.counts k.class k.shape k.pairings (c.rejection.ensures root m)
+    let k = c.classify-c.ensures root in
+    judged_by c.args.st m c.args.t _ _ k.counts k.class k.shape k.pairings (rw (← zip_take) at (c.rejection.ensures root m))
