@@ -94,7 +94,7 @@ buy_buy_read st t [] units same order side h root = absurd (omega (arith, some s
 buy_buy_read st t (x ∷ tags) [] same order side h root = absurd (omega arith)
 buy_buy_read st t (x ∷ tags) (u ∷ units) same order side h root =
     let first : buy_buy st t (legs_from root false (x ∷ tags) (u ∷ units)) ≡ tested st t (x ∷ tags) (u ∷ units) (is_bought x) =
-        rw (← sides_of root (same_bool (is_bought x)) (x ∷ tags) (u ∷ units) same, ← sizes_of_lem root (x ∷ tags) (u ∷ units) same)
-        (read_first st t _ _ (complex st t (x ∷ tags) (u ∷ units) same order root))
+    rw (← sides_of root (same_bool (is_bought x)) (x ∷ tags) (u ∷ units) same, ← sizes_of_lem root (x ∷ tags) (u ∷ units) same)
+    (read_first st t _ _ (complex st t (x ∷ tags) (u ∷ units) same order root))
     in
     first ∙ ap (tested st t (x ∷ tags) (u ∷ units)) (sym h)

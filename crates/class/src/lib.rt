@@ -49,7 +49,12 @@ pub fn class_of(tags: &[u64], units: &[u64], pairs: Class) -> Class
     ensures { (root : ℕ) → class_number result ≡ class_with (legs_from root false tags.now units.now) (class_number pairs) }
 {
     match (tags, units) {
-        ([a, m, b], [x, y, z]) => class_of_three(leg_at(*a, *x), leg_at(*m, *y), leg_at(*b, *z), pairs),
+        ([a, m, b], [x, y, z]) => class_of_three(
+            leg_at(*a, *x),
+            leg_at(*m, *y),
+            leg_at(*b, *z),
+            pairs,
+        ),
         _ => pairs,
     }
 }

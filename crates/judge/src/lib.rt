@@ -36,13 +36,7 @@ fn judge_simple(st: Settings, m: Market, t: Terms, tag: u64) -> Judged
 }
 
 // No check of a complex order asks for the market.
-fn judge_complex(
-    st: Settings,
-    t: Terms,
-    tags: &[u64; 16],
-    left: &mut [u64; 16],
-    n: usize,
-) -> Judged
+fn judge_complex(st: Settings, t: Terms, tags: &[u64; 16], left: &mut [u64; 16], n: usize) -> Judged
     requires { (settings_hold st ≡ true)
         × ValidTags n tags.now left.old
         × (1 ≤ n)

@@ -132,7 +132,12 @@ pub fn shape_of(tags: &[u64], units: &[u64]) -> Shape
     match (tags, units) {
         ([a, b], [x, y]) => shape_of_two(leg_at(*a, *x), leg_at(*b, *y)),
         ([a, m, b], [x, y, z]) => shape_of_three(leg_at(*a, *x), leg_at(*m, *y), leg_at(*b, *z)),
-        ([p, q, d, c], [w, x, y, z]) => shape_of_four(leg_at(*p, *w), leg_at(*q, *x), leg_at(*d, *y), leg_at(*c, *z)),
+        ([p, q, d, c], [w, x, y, z]) => shape_of_four(
+            leg_at(*p, *w),
+            leg_at(*q, *x),
+            leg_at(*d, *y),
+            leg_at(*c, *z),
+        ),
         _ => Shape::Other,
     }
 }

@@ -11,8 +11,7 @@ rejection-requires c =
     let r = c.requires in
     let k = c.classify-c.ensures 0 in
     let few = r.1.valid.few in
-    let full = r.1.valid.full in
-    (
+    let full = r.1.valid.full in (
       length-take-le a.n a.tags.now (omega arith) ∙ sym (length-take-le a.n _ (omega arith)),
       rw (← zip_take) (complex_units a.st a.t a.n a.tags.now a.left.now _ r.0 r.1 r.2 r.3 k.counts),
       rw (← zip_take) k.shape,
