@@ -8,7 +8,7 @@ ghost use Rattle.rules.specs.Quote.{comparison, set_distance, is_inverted, is_qu
 use distance::{distance, tick_at};
 use reference::is_unusable;
 use rules::{Market, Mills, Settings};
-use sides::{at_or_past, is_beyond, national, own};
+use sides::{Quote, at_or_past, is_beyond, national, own};
 
 #[tactic(auto, unfolding(rules::specs::Quote::comparison))]
 fn comparison(bought: bool, m: Market) -> Mills
@@ -56,9 +56,9 @@ fn is_quoting(m: Market) -> bool
 }
 
 #[tactic(auto, unfolding(rules::specs::Quote::quote_inversion))]
-pub fn quote_inversion(st: Settings, m: Market, bid: Mills, offer: Mills) -> bool
+pub fn quote_inversion(st: Settings, m: Market, q: Quote) -> bool
     requires { (settings_hold st ≡ true) × (market_holds m ≡ true) }
-    ensures { result ≡ quote_inversion st m bid offer }
+    ensures { result ≡ quote_inversion st m q.bid q.offer }
 {
-    is_quoting(m) && (is_inverted(true, st, m, bid) || is_inverted(false, st, m, offer))
+    is_quoting(m) && (is_inverted(true, st, m, q.bid) || is_inverted(false, st, m, q.offer))
 }

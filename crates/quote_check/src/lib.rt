@@ -11,21 +11,22 @@ use inputs::{market_of, settings_of};
 use inversion::quote_inversion;
 use put_call::{call_test, put_test};
 use quote_validity::read_quote;
-use rules::{Market, Mills, Series, Settings};
+use rules::{Market, Series, Settings};
+use sides::Quote;
 
 // The first check that applies. 20 and 21 test the bid.
 #[tactic(auto, unfolding(rules::specs::Quote::quote_rejection, rules::specs::Numbers::first_of))]
-pub fn rejection(st: Settings, m: Market, s: Series, bid: Mills, offer: Mills) -> Result<(), Check>
+pub fn rejection(st: Settings, m: Market, s: Series, q: Quote) -> Result<(), Check>
     requires { (settings_hold st ≡ true) × (market_holds m ≡ true) }
-    ensures { number_of check_number result ≡ quote_rejection st m s bid offer }
+    ensures { number_of check_number result ≡ quote_rejection st m s q.bid q.offer }
 {
-    fail_if(st.check20 != 0 && put_test(s, bid), Check::Put)?;
+    fail_if(st.check20 != 0 && put_test(s, q.bid), Check::Put)?;
     fail_if(
-        st.check21 != 0 && call_test(st.adjusted != 0, m, s, bid),
+        st.check21 != 0 && call_test(st.adjusted != 0, m, s, q.bid),
         Check::Call,
     )?;
     fail_if(
-        st.check26 != 0 && quote_inversion(st, m, bid, offer),
+        st.check26 != 0 && quote_inversion(st, m, q),
         Check::QuoteInversion,
     )
 }
@@ -42,32 +43,24 @@ fn judged(resting: u64, verdict: Result<(), Check>) -> JudgedQuote
 
 // The quote check on the host's bytes. A refusal leaves the resting quote alone.
 #[tactic(auto, unfolding(rules::specs::Quote::check_quote, rules::specs::Quote::quote_outcome))]
-fn check_quote(
-    symbol: &[u8],
-    bid: Mills,
-    offer: Mills,
-    resting: u64,
-    st: Settings,
-    m: Market,
-) -> AnswerToQuote
-    ensures { quote_said result ≡ check_quote st m symbol.now bid offer resting }
+fn check_quote(symbol: &[u8], q: Quote, resting: u64, st: Settings, m: Market) -> AnswerToQuote
+    ensures { quote_said result ≡ check_quote st m symbol.now q.bid q.offer resting }
 {
-    let read = read_quote(symbol, bid, offer, st, m)?;
-    Ok(judged(resting, rejection(st, m, read.series, bid, offer)))
+    let read = read_quote(symbol, q, st, m)?;
+    Ok(judged(resting, rejection(st, m, read.series, q)))
 }
 
 // The quote check on the host's slices.
 pub fn check_slices(
     symbol: &[u8],
-    bid: Mills,
-    offer: Mills,
+    q: Quote,
     resting: u64,
     settings: &[u64],
     market: &[u64],
 ) -> AnswerToQuote
-    ensures { quote_said result ≡ check_quote (settings_of settings.now) (market_of market.now) symbol.now bid offer resting }
+    ensures { quote_said result ≡ check_quote (settings_of settings.now) (market_of market.now) symbol.now q.bid q.offer resting }
 {
     let set = settings_of(settings);
     let values = market_of(market);
-    check_quote(symbol, bid, offer, resting, set, values)
+    check_quote(symbol, q, resting, set, values)
 }

@@ -11,8 +11,9 @@ ghost use Rattle.answers.specs.Answers.{refusal_number, number_of};
 use amounts::within;
 use answers::{Refusal, fail_if};
 use limits::{market_holds, settings_hold};
-use rules::{Market, Mills, Series, Settings};
+use rules::{Market, Series, Settings};
 use series::series_of;
+use sides::Quote;
 
 // What the symbol of a quote says.
 #[derive(Clone, Copy)]
@@ -22,30 +23,24 @@ pub struct QuoteRead {
 }
 
 #[tactic(auto, unfolding(rules::specs::Quote::is_bad_quote))]
-fn is_bad_quote(bid: Mills, offer: Mills) -> bool
-    ensures { result ≡ is_bad_quote bid offer }
+fn is_bad_quote(q: Quote) -> bool
+    ensures { result ≡ is_bad_quote q.bid q.offer }
 {
-    !within(1, 1000000000, bid.0) || !within(1, 1000000000, offer.0) || offer.0 <= bid.0
+    !within(1, 1000000000, q.bid.0) || !within(1, 1000000000, q.offer.0) || q.offer.0 <= q.bid.0
 }
 
 // The reader's refusals, 1 and 4, are the first two of a quote's.
 #[tactic(auto, unfolding(rules::specs::Quote::quote_refusal, rules::specs::Numbers::first_of, rules::specs::Symbol::read_symbol))]
-pub fn read_quote(
-    symbol: &[u8],
-    bid: Mills,
-    offer: Mills,
-    st: Settings,
-    m: Market,
-) -> Result<QuoteRead, Refusal>
-    ensures number { number_of refusal_number result ≡ quote_refusal st m symbol.now bid offer }
-    ensures root { IfOk result (λ q. q.root ≡ (parts_of symbol.now).root) }
-    ensures series { IfOk result (λ q. q.series ≡ series_of (parts_of symbol.now)) }
-    ensures held { IfOk result (λ q. (settings_hold st ≡ true) × (market_holds m ≡ true)) }
+pub fn read_quote(symbol: &[u8], q: Quote, st: Settings, m: Market) -> Result<QuoteRead, Refusal>
+    ensures number { number_of refusal_number result ≡ quote_refusal st m symbol.now q.bid q.offer }
+    ensures root { IfOk result (λ r. r.root ≡ (parts_of symbol.now).root) }
+    ensures series { IfOk result (λ r. r.series ≡ series_of (parts_of symbol.now)) }
+    ensures held { IfOk result (λ r. (settings_hold st ≡ true) × (market_holds m ≡ true)) }
 {
     let parts = symbol::read(symbol)?;
     fail_if(!settings_hold(st), Refusal::BadSetting)?;
     fail_if(!market_holds(m), Refusal::BadMarket)?;
-    fail_if(is_bad_quote(bid, offer), Refusal::BadQuote)?;
+    fail_if(is_bad_quote(q), Refusal::BadQuote)?;
     Ok(QuoteRead {
         root: parts.root,
         series: series_of(parts),

@@ -6,6 +6,13 @@ ghost use Rattle.rules.specs.Market.{national, own, at_or_past, is_beyond};
 
 use rules::{Market, Mills};
 
+// The prices of a quote.
+#[derive(Clone, Copy)]
+pub struct Quote {
+    pub bid: Mills,
+    pub offer: Mills,
+}
+
 // The national best of the other side.
 pub fn national(bought: bool, m: Market) -> Mills
     ensures { result ≡ national bought m }

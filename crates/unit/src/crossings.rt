@@ -7,6 +7,7 @@ use crossing::{cross, said_of_crossing};
 use quote_check::check_slices;
 use resting::Crossing;
 use rules::Mills;
+use sides::Quote;
 
 // Checks a crossing quote. The number is the result; the flag, the three parts of the size and the fills are lent.
 #[tactic(auto, using(crossing::proofs::Laws::crossed_by_lem))]
@@ -31,7 +32,11 @@ pub extern "C" fn opc_check_crossing_quote(
 ) -> u64
     ensures { record { answer = record { number = result; cancel = cancel.new; executed = executed.new; booked = booked.new; cancelled = cancelled.new }; fills = fills.new } ≡ check_crossing (settings_of settings.now) (market_of market.now) symbol.now (record { 0 = bid }) (record { 0 = offer }) resting (record { sell = sell; size = size; prices = prices.now; sizes = sizes.now; away = record { 0 = away } }) (length fills.old) }
 {
-    let quote = check_slices(symbol, Mills(bid), Mills(offer), resting, settings, market);
+    let quote = Quote {
+        bid: Mills(bid),
+        offer: Mills(offer),
+    };
+    let checked = check_slices(symbol, quote, resting, settings, market);
     let crossing = Crossing {
         sell,
         size,
@@ -39,7 +44,7 @@ pub extern "C" fn opc_check_crossing_quote(
         sizes,
         away: Mills(away),
     };
-    let answer = cross(quote, Mills(bid), Mills(offer), crossing, fills);
+    let answer = cross(checked, quote.bid, quote.offer, crossing, fills);
     let said = said_of_crossing(answer);
     *cancel = said.cancel;
     *executed = said.executed;
