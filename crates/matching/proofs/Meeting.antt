@@ -1,7 +1,7 @@
 -- What a match takes from the other side is what the figure gains.
 use mathlib.Core.Path.{◌≡◌, refl, sym, ap, ◌∙◌}
 use mathlib.Core.List.{List}
-use mathlib.Core.Bool.{Bool, false, not}
+use mathlib.Core.Bool.{Bool, not}
 use Prim.Native.Nat.{ℕ, ◌≤◌, ◌<◌, ◌-◌, ◌+◌}
 use native.Mathlib.Omega.{arith}
 use lib.IntN.{ℤ, nat_abs}
@@ -14,18 +14,14 @@ use Rattle.figure.proofs.Small.{held}
 use Rattle.keys.specs.Tags.{is_bought}
 use Rattle.tagged.specs.declared.PairTally.{PairTally}
 use Rattle.tagged.specs.declared.Step.{Step}
-use Rattle.tagged.specs.Tags.{one_more, note_as, tally_of, matched_at, after_match, InSequence, Counts, Meets, series_in}
-use Rattle.tagged.proofs.Signs.{sign_small, adjusted_small}
+use Rattle.tagged.specs.Tags.{one_more, note_as, tally_of, matched_at, after_match, InSequence, Counts, Meets}
+use Rattle.tagged.proofs.Signs.{adjusted_small}
 use Rattle.tagged.proofs.Tagging.{matched_small, note_rising, counted_more}
-use Rattle.tagged.proofs.Figures.{count_at, figure_fits, rises, met_figure}
+use Rattle.tagged.proofs.Figures.{count_at, figure_bound, figure_held, rises, met_figure}
 
 -- a match of some contracts is one more
 some_noted : (t : PairTally) (d : Bool) (n : ℕ) → 1 ≤ n → one_more t d ≡ note_as t d n
 some_noted t d n h = rw (ne_eqb n 0 (λ e. absurd (omega arith)))
-
--- the sign that the code has read
-pub sign_read : (bought : Bool) (s : ℤ) → s ≡ sign bought → to_z w64 (of_z w64 s) ≡ sign bought
-sign_read bought s e = held s (rw e (omega (arith, sign_small bought))) ∙ e
 
 module _ (tags left : List ℕ) (i at m : ℕ) (s : Step) (sequence : InSequence tags left) (within : at < length tags) where
   abbrev tx : ℕ
@@ -40,10 +36,10 @@ module _ (tags left : List ℕ) (i at m : ℕ) (s : Step) (sequence : InSequence
 
     module _ (counts : Counts tags left i (i + 1) s.figure) where
       pub figure_small : nat_abs s.figure ≤ 160000
-      figure_small = rw (counts 0 false) (figure_fits tags left sequence false 0 (series_in tags false i) (i + 1))
+      figure_small = figure_bound tags left sequence i (i + 1) s.figure counts
 
       pub figure_read : to_z w64 (of_z w64 s.figure) ≡ s.figure
-      figure_read = held s.figure (omega (arith, figure_small))
+      figure_read = figure_held tags left sequence i (i + 1) s.figure counts
 
       -- the figure after the match, as the code reads it
       pub gained : to_z w64 (of_z w64 (adjusted s.figure (sign (is_bought tx)) m)) ≡ adjusted s.figure (sign (is_bought tx)) m

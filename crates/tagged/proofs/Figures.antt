@@ -9,6 +9,8 @@ use lib.Dec.{eqb}
 use lib.IntN.{ℤ, pos, nat_abs, sub_ℕ}
 use lib.ListN.{length, take, drop, get_or, set, length-set, length-drop, take-append-drop, drop_of_length-le}
 use lib.Seq.{get_or-drop, drop-set-lt, drop-set-add, drop-drop}
+use mir.Syntax.{w64}
+use mir.Val.{to_z, of_z}
 use borrow.Author.Tests.{eqb-true, eqb-false, eq-eqb, ne_eqb}
 use Rattle.rules.specs.declared.Series.{Series}
 use Rattle.rules.specs.declared.Leg.{Leg}
@@ -16,6 +18,7 @@ use Rattle.rules.specs.Lists.{All}
 use Rattle.rules.specs.Pairing.{less, matched, reach}
 use Rattle.rules.specs.OpenContracts.{sign, adjusted, shows_other, open_on, open_contracts}
 use Rattle.rules.specs.Order.{no_leg}
+use Rattle.figure.proofs.Small.{held}
 use Rattle.open_contracts.proofs.Open.{Grouping, Lined, open_past, open_few, open_alike, figure_small, one_sided_lem}
 use Rattle.open_contracts.proofs.Sides.{walk_each_two}
 use Rattle.open_contracts.proofs.Searching as searching
@@ -146,7 +149,7 @@ module _ (tags left : List ℕ) (q : InSequence tags left) (second : Bool) (root
   sizes (t ∷ ts) [] h = tt
   sizes (t ∷ ts) (m ∷ ns) h = (h.0, sizes ts ns h.1)
 
-  pub figure_fits : (s : Series) (j : ℕ) → nat_abs (open_contracts (together second) s (legs_from_on root tags left second j)) ≤ 160000
+  figure_fits : (s : Series) (j : ℕ) → nat_abs (open_contracts (together second) s (legs_from_on root tags left second j)) ≤ 160000
   figure_fits s j = figure_small (together second) s 160000 (legs_from_on root tags left second j) (λ side. omega (arith, open_few (together second) side s 10000 (legs_from_on root tags left second j) counted, short))
     where
       counted : All (λ (l : Leg). l.size ≤ 10000) (legs_from_on root tags left second j)
@@ -279,6 +282,13 @@ module _ (tags left : List ℕ) (q : InSequence tags left) (second : Bool) (root
         → f' ≡ open_contracts (together second) (series_in tags second i) (legs_from_on root tags after second (i + 1))
         → Searching (together second) (leg_at root second (get_or tags i 0) (x - m)) (legs_from_on root tags after second (i + 1)) (legs_from_on root tags after second (j + 1)) f'
     met f f' g e = rw (rears, rests) (searching.next (together second) (rw (next_leg j l) at g) at m f' long there as_legs (rw rears at e))
+
+-- a figure that counts what is open is small, and a local of 64 bits holds it
+pub figure_bound : (tags left : List ℕ) → InSequence tags left → (i j : ℕ) (f : ℤ) → Counts tags left i j f → nat_abs f ≤ 160000
+figure_bound tags left q i j f counts = rw (counts 0 false) (figure_fits tags left q false 0 (series_in tags false i) j)
+
+pub figure_held : (tags left : List ℕ) → InSequence tags left → (i j : ℕ) (f : ℤ) → Counts tags left i j f → to_z w64 (of_z w64 f) ≡ f
+figure_held tags left q i j f counts = held f (omega (arith, figure_bound tags left q i j f counts))
 
 -- the figure does not show the other side: the leg at `i` meets nothing
 module _ (tags left : List ℕ) (q : InSequence tags left) (i : ℕ) (h : i < length tags) (f : ℤ) (counts : Counts tags left i (i + 1) f) (one : OneSideOpen tags left i)

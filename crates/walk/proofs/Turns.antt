@@ -1,31 +1,25 @@
 -- The search of the leg at `i`: what its loop still has to meet, after what it has met, gives what the definition gives;
 -- the figure is what is open.
-use mathlib.Core.Path.{◌≡◌, refl, sym, ap, ap₂, ◌∙◌}
+use mathlib.Core.Path.{◌≡◌, refl, sym, ap, ◌∙◌}
 use mathlib.Core.Logic.{◌⊎◌, inl, inr}
 use mathlib.Core.List.{List}
 use mathlib.Core.Bool.{Bool, true, false}
 use Prim.Native.Nat.{ℕ, ◌≤◌, ◌-◌, ◌<◌, ◌+◌, min}
 use native.Mathlib.Nat.{pos_of_ne-zero}
 use native.Mathlib.Omega.{arith}
-use lib.IntN.{ℤ, nat_abs}
 use lib.ListN.{length, get_or, set}
 use lib.Dec.{eqb}
 use borrow.Author.Tests.{eqb-true, eqb-false}
-use mir.Syntax.{w64}
-use mir.Val.{to_z, of_z}
 use Rattle.rules.specs.OpenContracts.{sign, shows_other, open_contracts}
 use Rattle.open_contracts.proofs.Searching as searching
 use Rattle.open_contracts.proofs.Searching.{Searching}
-use Rattle.figure.proofs.Small.{held}
 use Rattle.keys.specs.Tags.{is_bought, leg_at}
 use Rattle.tagged.specs.declared.PairTally.{PairTally}
 use Rattle.tagged.specs.declared.Step.{Step}
 use Rattle.tagged.specs.Tags.{together, matched_at, tally_of, InSequence, Counts, OneSideOpen, Meets, Reaches, legs_from_on, series_in}
-use Rattle.tagged.proofs.Signs.{sign_small}
-use Rattle.matching.proofs.Meeting.{sign_read}
 use Rattle.tagged.proofs.Tagging.{matched_again, note_few}
 use Rattle.tagged.proofs.Numbered.{tag_at_small, inner, inner_turn, inner_skip, inner_legs, inner_tally}
-use Rattle.tagged.proofs.Figures.{sequence_set, count_at, put_before, figure_fits, inside, meets, passed, met}
+use Rattle.tagged.proofs.Figures.{sequence_set, count_at, put_before, inside, meets, passed, met}
 
 -- what the loop keeps: `left₀` and `s` as the search began, `left` and `r` now, with `x` contracts left and `j` next
 pub record Turned (tags left₀ left : List ℕ) (i : ℕ) (s r : Step) (x j : ℕ) : Type 0 where
@@ -58,19 +52,9 @@ module _ {tags left₀ left : List ℕ} {i : ℕ} {s r : Step} {x j : ℕ} (h : 
   abbrev y : ℕ
   y = get_or left j 0
 
-  figure_small : nat_abs r.figure ≤ 160000
-  figure_small = rw (v.searching 0 false).figure (figure_fits tags left v.sequence false 0 (series_in tags false i) (i + 1))
-
-  figure_read : to_z w64 (of_z w64 r.figure) ≡ r.figure
-  figure_read = held r.figure (omega (arith, figure_small))
-
-  -- the loop's test: `sgn` is the leg's sign, as the code has it
-  module _ {sgn : ℤ} (sign_is : sgn ≡ sign (is_bought tx)) where
-    pub test_small : (nat_abs (to_z w64 (of_z w64 r.figure)) ≤ 1000000) × (nat_abs (to_z w64 (of_z w64 sgn)) ≤ 1)
-    test_small = (rw figure_read (omega (arith, figure_small)), rw (sign_read (is_bought tx) sgn sign_is) (sign_small (is_bought tx)))
-
-    pub shown : {shows : Bool} → shows ≡ shows_other (to_z w64 (of_z w64 r.figure)) (to_z w64 (of_z w64 sgn)) → shows_other r.figure (sign (is_bought tx)) ≡ shows
-    shown e = sym (e ∙ ap₂ (λ (z k : ℤ). shows_other z k) figure_read (sign_read (is_bought tx) sgn sign_is))
+  -- the figure counts what is open behind the leg
+  pub counted : Counts tags left i (i + 1) r.figure
+  counted root second = (v.searching root second).figure
 
   -- no leg is behind: the leg has nothing left, or the figure does not show the other side
   pub none_behind : length tags ≤ j → (x ≡ 0) ⊎ (shows_other r.figure (sign (is_bought tx)) ≡ false)
@@ -138,4 +122,4 @@ module _ {tags left₀ left : List ℕ} {i : ℕ} {s r : Step} {x j : ℕ} (h : 
         }
 
   pub counts : Counts tags (set left i x) i (i + 1) r.figure
-  counts root second = (v.searching root second).figure ∙ ap (open_contracts (together second) (series_in tags second i)) (sym (put_before tags left v.sequence second root i x h))
+  counts root second = counted root second ∙ ap (open_contracts (together second) (series_in tags second i)) (sym (put_before tags left v.sequence second root i x h))

@@ -39,6 +39,20 @@ fn search(tags: &[u64], left: &mut [u64], i: usize, s: Step) -> Step
     r
 }
 
+// What the leg at i finds: it searches where the figure shows the other side, and else finds nothing.
+fn find(tags: &[u64], left: &mut [u64], i: usize, s: Step) -> Step
+    requires in_sequence { InSequence tags.now left.old × (i < length tags.now) × (s.debits + s.credits < 900) }
+    requires counts { Counts tags.now left.old i (i + 1) s.figure × OneSideOpen tags.now left.old i }
+    ensures reaches { Reaches tags.now left.old left.new i (tally_of s) (tally_of result) }
+    ensures counts_after { Counts tags.now left.new i (i + 1) result.figure × (result.group ≡ s.group) }
+{
+    if shows_other(s.figure, sign_of(tags[i])) {
+        search(tags, left, i, s)
+    } else {
+        s
+    }
+}
+
 // The leg at i is reached, after all that stand behind it. What it has left is open from then on.
 fn reach(tags: &[u64], left: &mut [u64], i: usize, s: Step) -> Step
     requires in_sequence { InSequence tags.now left.old × (i < length tags.now) × (s.debits + s.credits < 900) }
@@ -50,18 +64,20 @@ fn reach(tags: &[u64], left: &mut [u64], i: usize, s: Step) -> Step
     let sign = sign_of(tx);
     let group = group_of(tx);
     let f = begun(s.figure, s.group, group);
-    let mut r = Step {
-        group,
-        figure: f,
-        ..s
-    };
-    if shows_other(f, sign) {
-        r = search(tags, left, i, r);
+    let r = find(
+        tags,
+        left,
+        i,
+        Step {
+            group,
+            figure: f,
+            ..s
+        },
+    );
+    Step {
+        figure: adjusted(r.figure, sign, left[i]),
+        ..r
     }
-    let rest = left[i];
-    let open = r.figure;
-    r.figure = adjusted(open, sign, rest);
-    r
 }
 
 // The walk over the legs: from the last to the first.
