@@ -13,6 +13,7 @@ use answers::{AnswerToQuote, Check, Refusal, fail_if};
 use execution::{fill, furthest, is_booked};
 use resting::{Crossing, is_bad_crossing, is_bought};
 use rules::{CrossingAnswer, Mills};
+use sides::Quote;
 
 // The parts of an accepted crossing quote's size.
 #[derive(Clone, Copy)]
@@ -63,19 +64,19 @@ pub fn said_of_crossing(answer: AnswerToCrossing) -> CrossingAnswer
 }
 
 // The price of the side that crosses.
-fn crossing_price(bought: bool, bid: Mills, offer: Mills) -> Mills
-    ensures { result ≡ crossing_price bought bid offer }
+fn crossing_price(bought: bool, q: Quote) -> Mills
+    ensures { result ≡ crossing_price bought q.bid q.offer }
 {
-    if bought { bid } else { offer }
+    if bought { q.bid } else { q.offer }
 }
 
 // Fills the list, of which nothing is filled yet; the remainder of the size is booked or cancelled.
-fn execute(bid: Mills, offer: Mills, c: Crossing, fills: &mut [u64]) -> Parts
+fn execute(q: Quote, c: Crossing, fills: &mut [u64]) -> Parts
     requires { (length c.sizes.now ≡ length c.prices.now) × (length c.prices.now ≤ length fills.old) × (fills.old ≡ replicate (length fills.old) 0) }
-    ensures { record { answer = crossed_said (Ok (Crossed.Accepted result)); fills = fills.new } ≡ execution (length fills.old) (crossing_price (not (is_yes c.entry.sell)) bid offer) (lent c.entry) }
+    ensures { record { answer = crossed_said (Ok (Crossed.Accepted result)); fills = fills.new } ≡ execution (length fills.old) (crossing_price (not (is_yes c.entry.sell)) q.bid q.offer) (lent c.entry) }
 {
     let bought = is_bought(c.sell);
-    let price = crossing_price(bought, bid, offer);
+    let price = crossing_price(bought, q);
     let booked = is_booked(bought, price, c.away);
     let left = fill(bought, furthest(booked, price, c.away), c, fills);
     let (booked, cancelled) = if booked { (left, 0) } else { (0, left) };
@@ -89,20 +90,14 @@ fn execute(bid: Mills, offer: Mills, c: Crossing, fills: &mut [u64]) -> Parts
 // What a crossing quote gets, by the quote check's answer. What comes with it counts only where that check does not
 // refuse, and it executes only where that check accepts.
 #[tactic(auto, using(rules::proofs::Executing::good_lengths, answers::proofs::Laws::refusal_refuses, answers::proofs::Laws::check_rejects), unfolding(crate::specs::ByQuote::crossed_by))]
-pub fn cross(
-    quote: AnswerToQuote,
-    bid: Mills,
-    offer: Mills,
-    c: Crossing,
-    fills: &mut [u64],
-) -> AnswerToCrossing
-    ensures { record { answer = crossed_said result; fills = fills.new } ≡ crossed_by (quote_said quote) bid offer (lent c.entry) (length fills.old) }
+pub fn cross(answer: AnswerToQuote, q: Quote, c: Crossing, fills: &mut [u64]) -> AnswerToCrossing
+    ensures { record { answer = crossed_said result; fills = fills.new } ≡ crossed_by (quote_said answer) q.bid q.offer (lent c.entry) (length fills.old) }
 {
     fills.fill(0);
-    let judged = quote?;
+    let judged = answer?;
     fail_if(is_bad_crossing(fills.len(), c), Refusal::BadCrossing)?;
     Ok(match judged.verdict {
-        Ok(()) => Crossed::Accepted(execute(bid, offer, c, fills)),
+        Ok(()) => Crossed::Accepted(execute(q, c, fills)),
         Err(check) => Crossed::Rejected(check, judged.cancel),
     })
 }

@@ -44,7 +44,7 @@ pub extern "C" fn opc_check_crossing_quote(
         sizes,
         away: Mills(away),
     };
-    let answer = cross(checked, quote.bid, quote.offer, crossing, fills);
+    let answer = cross(checked, quote, crossing, fills);
     let said = said_of_crossing(answer);
     *cancel = said.cancel;
     *executed = said.executed;

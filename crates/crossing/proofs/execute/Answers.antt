@@ -11,5 +11,5 @@ returns c =
     let fill = c.fill-left.ensures in
     let kept : c.if-booked.booked.0 ≡ cond c.is_booked-booked.result c.fill-left.result 0 = grind (arith, common_steps) in
     let lost : c.if-booked.booked.1 ≡ cond c.is_booked-booked.result 0 c.fill-left.result = grind (arith, common_steps) in
-    executed a.bid a.offer (lent a.c) c.is_bought-bought.ensures c.crossing_price-price.ensures c.is_booked-booked.ensures c.furthest.ensures
+    executed a.q.bid a.q.offer (lent a.c) c.is_bought-bought.ensures c.crossing_price-price.ensures c.is_booked-booked.ensures c.furthest.ensures
     c.requires.0 c.requires.2 fill.value fill.fills_after kept lost
