@@ -1,10 +1,10 @@
--- Every month has 28 days; for other days the table decides, and it has no other month.
-use Rattle.std.proofs.Common.{◌≡◌, refl, [], ◌∷◌, true, false, ◌&&◌, List, ℕ, zero, suc, ◌-◌, ◌≤◌, ◌<◌, length, get_or, leb, arith}
-use borrow.Author.Tests.{leb-true, lt-leb, le-leb}
+-- Every month has 28 days.
+use Rattle.std.proofs.Common.{◌≡◌, refl, [], ◌∷◌, true, ◌&&◌, List, ℕ, zero, suc, ◌-◌, ◌≤◌, ◌<◌, length, get_or, leb, arith}
+use borrow.Author.Tests.{leb-true, le-leb}
 use Rattle.rules.specs.Limits.{within}
 use Rattle.rules.specs.Lists.{all}
 use Rattle.rules.specs.Symbol.{month_lengths, days_in, day_exists}
-use Rattle.rules.proofs.Tests.{and_both, and_of, and_false, within_both}
+use Rattle.rules.proofs.Tests.{and_both, and_of, within_both}
 
 entry : (least : ℕ) (xs : List ℕ) → all (leb least) xs ≡ true → (i : ℕ) → i < length xs → least ≤ get_or xs i 0
 unfolding all
@@ -20,11 +20,3 @@ early_day year month day h =
     let d = within_both 1 28 day a.1 in
     let l : day ≤ days_in year month = omega (arith, m.0, m.1, d.1, entry 28 month_lengths refl (month - 1) (omega arith)) in
     and_of a.0 (and_of (le-leb 1 day d.0) (le-leb day (days_in year month) l))
-
-pub no_month_below : (year month day : ℕ) → month < 1 → day_exists year month day ≡ false
-unfolding day_exists
-no_month_below year month day h = rw (lt-leb 1 month h) (and_false (within 2000 2099 year) _)
-
-pub no_month_above : (year month day : ℕ) → 12 < month → day_exists year month day ≡ false
-unfolding day_exists
-no_month_above year month day h = rw (le-leb 1 month (omega arith), lt-leb month 12 h) (and_false (within 2000 2099 year) _)

@@ -4,8 +4,7 @@
 ghost use Rattle.std.specs.Prelude.{◌≡◌, ◌≤◌};
 ghost use Rattle.rules.specs.Symbol.{leap_day, days_in, day_exists};
 
-use amounts::{pick, within};
-use choice::both;
+use amounts::within;
 
 const MONTH_LENGTHS: [u64; 12] = [31, 28, 31, 30, 31, 30, 31, 31, 30, 31, 30, 31];
 
@@ -13,7 +12,7 @@ const MONTH_LENGTHS: [u64; 12] = [31, 28, 31, 30, 31, 30, 31, 31, 30, 31, 30, 31
 fn leap_day(year: u64, month: u64) -> u64
     ensures { result ≡ leap_day year month }
 {
-    pick(both(month == 2, year % 4 == 0), 1, 0)
+    u64::from(month == 2 && year % 4 == 0)
 }
 
 #[tactic(auto, unfolding(rules::specs::Symbol::days_in), using(rules::proofs::Symbols::month_small, rules::proofs::Symbols::leap_small))]
@@ -21,25 +20,15 @@ fn days_in(year: u64, month: u64) -> u64
     requires { (1 ≤ month) × (month ≤ 12) }
     ensures { result ≡ days_in year month }
 {
-    let i = (month - 1) as usize;
-    MONTH_LENGTHS[i] + leap_day(year, month)
+    MONTH_LENGTHS[month as usize - 1] + leap_day(year, month)
 }
 
-#[tactic(auto, unfolding(rules::specs::Symbol::day_exists), using(crate::proofs::Laws::early_day, crate::proofs::Laws::no_month_below, crate::proofs::Laws::no_month_above))]
+// Every month has 28 days: most days need no table.
+#[tactic(auto, unfolding(rules::specs::Symbol::day_exists), using(crate::proofs::Laws::early_day))]
 pub fn day_exists(year: u64, month: u64, day: u64) -> bool
     ensures { result ≡ day_exists year month day }
 {
-    let month_exists = both(within(2000, 2099, year), within(1, 12, month));
-    // Every month has 28 days: most days need no table.
-    if both(month_exists, within(1, 28, day)) {
-        return true;
-    }
-    // The table has no other month.
-    if month < 1 {
-        return false;
-    }
-    if 12 < month {
-        return false;
-    }
-    both(month_exists, within(1, days_in(year, month), day))
+    within(2000, 2099, year)
+        && within(1, 12, month)
+        && (within(1, 28, day) || within(1, days_in(year, month), day))
 }

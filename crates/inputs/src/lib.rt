@@ -1,13 +1,12 @@
 // Settings and market as the host hands them in.
 #![tactic(auto)]
 
-ghost use Rattle.std.specs.Prelude.{◌≡◌, length};
+ghost use Rattle.std.specs.Prelude.{◌≡◌};
 ghost use Rattle.rules.specs.Market.{settings_from, settings_of, market_from, market_of};
 
 use rules::{Market, Mills, Settings, Ticks};
 
-fn settings_from(n: &[u64]) -> Settings
-    requires { length n.now ≡ 20 }
+fn settings_from(n: &[u64; 20]) -> Settings
     ensures { result ≡ settings_from n.now }
 {
     Settings {
@@ -39,14 +38,10 @@ fn settings_from(n: &[u64]) -> Settings
 pub fn settings_of(n: &[u64]) -> Settings
     ensures { result ≡ settings_of n.now }
 {
-    if n.len() == 20 {
-        return settings_from(n);
-    }
-    settings_from(&[0; 20])
+    settings_from(n.try_into().unwrap_or(&[0; 20]))
 }
 
-fn market_from(n: &[u64]) -> Market
-    requires { length n.now ≡ 9 }
+fn market_from(n: &[u64; 9]) -> Market
     ensures { result ≡ market_from n.now }
 {
     Market {
@@ -67,8 +62,5 @@ fn market_from(n: &[u64]) -> Market
 pub fn market_of(n: &[u64]) -> Market
     ensures { result ≡ market_of n.now }
 {
-    if n.len() == 9 {
-        return market_from(n);
-    }
-    market_from(&[3, 0, 0, 0, 0, 0, 0, 0, 0])
+    market_from(n.try_into().unwrap_or(&[3, 0, 0, 0, 0, 0, 0, 0, 0]))
 }

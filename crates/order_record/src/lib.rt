@@ -5,19 +5,16 @@ ghost use Rattle.std.specs.Prelude.{◌≡◌, ◌*◌, ◌≤◌, length};
 ghost use Rattle.rules.specs.Order.{raw_legs, Recorded};
 ghost use Rattle.rules.specs.Numbers.{are_whole};
 
-use choice::both;
 use leg_bytes::raw_leg;
 use rules::{Order, RawLeg, Terms};
 
-// Whether the counts are 8 bytes each, with 21 symbol bytes to each count.
+// Whether the counts are 8 bytes each, with 21 symbol bytes to each count. 21 bytes for each count of the longest slice
+// would not fit 64 bits: the symbol bytes are divided instead.
 #[tactic(auto, using(crate::proofs::Laws::by_21))]
 pub fn are_whole(symbols: &[u8], counts: &[u8]) -> bool
     ensures { result ≡ are_whole symbols.now counts.now }
 {
-    // 21 bytes for each count of the longest slice would not fit 64 bits: the symbol bytes are divided instead.
-    let n = counts.len() / 8;
-    let paired = both(symbols.len() % 21 == 0, symbols.len() / 21 == n);
-    both(counts.len() % 8 == 0, paired)
+    counts.len() % 8 == 0 && symbols.len() % 21 == 0 && symbols.len() / 21 == counts.len() / 8
 }
 
 // The order record of `n` legs. Each leg is stored in place: a record that is handed on is copied whole.
@@ -34,18 +31,12 @@ pub fn order_of(symbols: &[u8], counts: &[u8], n: usize, terms: Terms) -> Order
     let mut order = Order {
         legs: [blank; 16],
         len: n,
-        terms: terms,
+        terms,
     };
-    let mut done = 0;
-    while done < n {
-        let i = done;
-        done += 1;
-        let s = 21 * i;
-        let s_end = s + 21;
-        let c = 8 * i;
-        let c_end = c + 8;
-        let leg = raw_leg(&symbols[s..s_end], &counts[c..c_end]);
-        order.legs[i] = leg;
+    for i in 0..n {
+        let symbol = &symbols[21 * i..21 * i + 21];
+        let count = &counts[8 * i..8 * i + 8];
+        order.legs[i] = raw_leg(symbol, count);
     }
     order
 }

@@ -1,5 +1,5 @@
 -- Six bytes as the low six of eight.
-use Rattle.std.proofs.Common.{◌≡◌, List, [], ◌∷◌, ℕ, length, get_or, w64, arith, ap, sym, ◌∙◌}
+use Rattle.std.proofs.Common.{◌≡◌, List, [], ◌∷◌, ℕ, length, get_or, w64, arith, ap}
 use Rattle.std.specs.Int.{from_be_bytes}
 use Rattle.rules.specs.Numerals.{value}
 use Rattle.rules.proofs.Slices.{whole_bytes}

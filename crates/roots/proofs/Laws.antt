@@ -1,5 +1,5 @@
 -- What stands behind a root's first letter, byte by byte.
-use Rattle.std.proofs.Common.{◌≡◌, refl, ap, ◌∙◌, List, [], ◌∷◌, true, false, ◌||◌, ◌&&◌, ℕ, ◌+◌, ◌<◌, length, get_or, take, drop, eqb, ◌≤◌, ◌-◌, arith, length-drop}
+use Rattle.std.proofs.Common.{◌≡◌, refl, List, [], ◌∷◌, true, false, ◌||◌, ℕ, ◌+◌, ◌<◌, length, get_or, take, drop, eqb, ◌≤◌, ◌-◌, arith, length-drop}
 use Rattle.std.proofs.Math.Seq.{take_all}
 use Rattle.std.specs.List.{list_all}
 use Rattle.std.proofs.lemmas.List.{at_drop_more, at_drop_all}

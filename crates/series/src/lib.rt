@@ -4,7 +4,7 @@
 ghost use Rattle.std.specs.Prelude.{◌≡◌, ◌≤◌};
 ghost use Rattle.rules.specs.Order.{series_of};
 
-use rules::{Mills, Series, SymbolParts};
+use rules::{Series, SymbolParts};
 
 // The bounds are those of the parts that the symbol reader gives.
 pub fn series_of(p: SymbolParts) -> Series
@@ -14,6 +14,6 @@ pub fn series_of(p: SymbolParts) -> Series
     Series {
         call: p.right == 67,
         expiry: p.year * 10000 + p.month * 100 + p.day,
-        strike: Mills(p.strike.0),
+        strike: p.strike,
     }
 }

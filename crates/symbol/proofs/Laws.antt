@@ -2,7 +2,7 @@
 use native.Mathlib.Omega.{arith}
 use mathlib.Core.Path.{◌≡◌, refl, sym, ap, ◌∙◌}
 use mathlib.Core.Logic.{⊎_elim}
-use mathlib.Core.List.{List, [], ◌∷◌, ◌++◌}
+use mathlib.Core.List.{List, ◌++◌}
 use mathlib.Core.Bool.{Bool, true, false, cond, ◌&&◌}
 use Prim.Native.Nat.{ℕ, ◌+◌, ◌-◌, ◌%◌, ◌≤◌}
 use lib.ListN.{length, get_or}
@@ -15,7 +15,7 @@ use Rattle.rules.specs.declared.SymbolRead.{SymbolRead}
 use Rattle.answers.specs.declared.Refusal.{Refusal}
 use Rattle.answers.specs.Answers.{read_said}
 use Rattle.rules.specs.Limits.{within}
-use Rattle.rules.specs.Numerals.{value, are_digits}
+use Rattle.rules.specs.Numerals.{are_digits}
 use Rattle.rules.specs.Symbol.{is_root, is_right, is_strike, month_lengths, leap_day, days_in, day_exists, in_limits, parts_of, is_symbol, refused_read, read_symbol}
 use Rattle.rules.proofs.Tests.{and_both, within_both}
 use Rattle.rules.proofs.Numerals.{digits_append}

@@ -1,5 +1,5 @@
 -- The digits from the next on, behind those that say `n`, say the number.
-use Rattle.std.proofs.Common.{◌≡◌, true, ◌<◌, drop}
+use Rattle.std.proofs.Common.{◌≡◌, true, drop}
 use Rattle.rules.specs.Numerals.{value, are_digits}
 use Rattle.digits.proofs.Laws.{said_with}
 use Rattle.digits.proofs.value_of.Given as goal
