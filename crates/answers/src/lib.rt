@@ -3,7 +3,6 @@
 #![tactic(auto)]
 
 ghost use Rattle.std.specs.Prelude.{◌≡◌, cond, Ok, Err, MatchResult};
-ghost use Rattle.rules.specs.Numbers.{refused};
 ghost use Rattle.answers.specs.Answers.{refusal_number, check_number, class_number, shape_number, answer_said, quote_said};
 
 use rules::{OrderAnswer, QuoteAnswer};
@@ -176,16 +175,4 @@ pub fn fail_if<E: Drop>(test: bool, e: E) -> Result<(), E>
     ensures { result ≡ cond test (Err e) (Ok tt) }
 {
     if test { Err(e) } else { Ok(()) }
-}
-
-// A refusal by its number, for callers that know no other answer yet.
-pub fn refused(number: u64) -> OrderAnswer
-    ensures { result ≡ refused number }
-{
-    OrderAnswer {
-        number: number,
-        class: 0,
-        shape: 0,
-        pairings: 0,
-    }
 }
