@@ -64,16 +64,12 @@ fn reach(tags: &[u64], left: &mut [u64], i: usize, s: Step) -> Step
     let sign = sign_of(tx);
     let group = group_of(tx);
     let f = begun(s.figure, s.group, group);
-    let r = find(
-        tags,
-        left,
-        i,
-        Step {
-            group,
-            figure: f,
-            ..s
-        },
-    );
+    let first = Step {
+        group,
+        figure: f,
+        ..s
+    };
+    let r = find(tags, left, i, first);
     Step {
         figure: adjusted(r.figure, sign, left[i]),
         ..r
