@@ -23,7 +23,7 @@ pub struct Read {
 
 // Each symbol is read once, and a root that is the first leg's is not tested again. A bad count does not end the loop,
 // since a symbol that stands behind it may be outside the layout, which is the lower number.
-#[tactic(auto, unfolding(rules::specs::Numbers::first_of), using(crate::proofs::Reading::none_read, crate::proofs::Reading::next_read, crate::proofs::Reading::bad_symbol, crate::proofs::Reading::all_read))]
+#[tactic(auto, unfolding(rules::specs::Numbers::first_of))]
 pub fn read_legs(
     legs: &[RawLeg; 16],
     n: usize,
