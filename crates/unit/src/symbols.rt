@@ -50,7 +50,7 @@ pub extern "C" fn opc_write_symbol(
         right: option_type,
         strike: Mills(strike),
     };
-    let written = writer::fill(parts, out);
-    *number = answers::number(written);
-    if written.is_ok() { 21 } else { 0 }
+    let n = answers::number(writer::fill(parts, out));
+    *number = n;
+    if n == 0 { 21 } else { 0 }
 }
