@@ -109,6 +109,10 @@ pub applies : (b : Bool) {e d : Refusal} → ◌≡◌ {A = Result (Unit {0}) Re
 applies true k = (refl, cc)
 applies false k = absurd cc
 
+pub spares : (b : Bool) (d : Refusal) {x : Unit {0}} → ◌≡◌ {A = Result (Unit {0}) Refusal} (Ok x) (cond b (Err d) (Ok tt)) → b ≡ false
+spares true d k = absurd cc
+spares false d k = refl
+
 pub head_missing : (o : Option Head) {e d : Refusal} → Err e ≡ ok_or o d → (o ≡ None) × (e ≡ d)
 head_missing None k = (refl, cc)
 head_missing (Some h) k = absurd cc
