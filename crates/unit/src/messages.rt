@@ -3,6 +3,7 @@ ghost use Rattle.std.specs.Prelude.{◌≡◌};
 ghost use Rattle.rules.specs.Market.{settings_of, market_of};
 ghost use Rattle.rules.specs.Fix.{check_fix};
 
+use answers::lend;
 use fix_check::check_fix;
 
 // Checks the order that a message says. The number is the result; class, shape and pairings are lent.
@@ -21,8 +22,5 @@ pub extern "C" fn opc_check_fix(
     ensures { record { number = result; class = class.new; shape = shape.new; pairings = pairings.new } ≡ check_fix (record { settings = settings_of settings.now; market = market_of market.now; stop = stop; manual = manual; opening = opening }) message.now }
 {
     let answer = check_fix(message, stop, manual, opening, settings, market);
-    *class = answer.class;
-    *shape = answer.shape;
-    *pairings = answer.pairings;
-    answer.number
+    lend(answer, class, shape, pairings)
 }
