@@ -96,6 +96,14 @@ unfolding with_places
 places_small i n [] h f = tt
 places_small i n (k ∷ ks) h f = (omega arith, places_small (suc i) n ks (omega arith) f)
 
+-- sorted, they are too; and sixteen elements have every place
+pub places_within : (n : ℕ) (ks : List ℕ) → length ks ≤ n → n ≤ 16 → All (λ p. p % 16 < n) (sort_keys (with_places 0 ks))
+places_within n ks h f = all_perm (λ p. p % 16 < n) (perm_sym (sort_same (with_places 0 ks))) (places_small 0 n ks (omega arith) f)
+
+pub sixteen_places : (n : ℕ) (ps : List ℕ) → 16 ≤ n → All (λ p. p % 16 < n) ps
+sixteen_places n [] h = tt
+sixteen_places n (p ∷ ps) h = (omega arith, sixteen_places n ps h)
+
 module _ (second : Bool) (ls : List Leg) (few : length ls ≤ 16) (range : All (λ x. InRange x.series) ls)
     (apart : EachTwo (λ x y. key_of second x.series ≡ key_of second y.series → ⊥) ls) where
   abbrev numbers : List ℕ

@@ -2,7 +2,8 @@
 // first walk's sequence; groups, sides and series are read off the tags.
 #![tactic(auto)]
 
-ghost use Rattle.std.specs.Prelude.{◌≡◌, false, ◌+◌, ◌*◌, ◌≤◌, ◌<◌, length};
+ghost use Rattle.std.specs.Prelude.{◌≡◌, false, ◌+◌, ◌*◌, ◌%◌, ◌≤◌, ◌<◌, length};
+ghost use Rattle.rules.specs.Lists.{All};
 ghost use Rattle.rules.specs.Pairing.{digit};
 ghost use Rattle.rules.specs.OpenContracts.{sign};
 ghost use Rattle.rules.specs.Valid.{InRange};
@@ -107,8 +108,9 @@ pub fn key_in(place: u64) -> u64
 
 // Tags and contracts in the sequence of sorted places: each place becomes its tag, and the contracts of its leg are put
 // beside it.
-pub fn arrange(places: &mut [u64], sizes: &[u64; 16], left: &mut [u64])
-    requires { length left.old ≡ length places.old }
+pub fn arrange(places: &mut [u64], sizes: &[u64], left: &mut [u64])
+    requires beside { length left.old ≡ length places.old }
+    requires within { All (λ p. p % 16 < length sizes.now) places.old }
     ensures { Arranged places.old sizes.now places.new left.new }
 {
     for (i, place) in places.iter_mut().enumerate() {

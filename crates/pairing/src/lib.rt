@@ -47,11 +47,9 @@ fn second_walk(tags: &[u64], left: &[u64]) -> PairTally
     let places = &mut places[..n];
     second_places(tags, places);
     sort(places);
-    let mut sizes = [0u64; 16];
-    sizes[..n].copy_from_slice(left);
     let mut rest = [0u64; 16];
     let rest = &mut rest[..n];
-    arrange(places, &sizes, rest);
+    arrange(places, left, rest);
     let pairs = walk(places, rest);
     loners(pairs, places, rest)
 }
