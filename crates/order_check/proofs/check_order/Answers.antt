@@ -4,7 +4,7 @@ use Rattle.rules.specs.declared.Settings.{Settings}
 use Rattle.rules.specs.declared.Market.{Market}
 use Rattle.rules.specs.Market.{settings_of, market_of}
 use Rattle.rules.specs.Numbers.{check_order}
-use Rattle.arranging.proofs.Arranging.{arranged_front}
+use Rattle.arranging.proofs.Arranging.{arranged_front, sixteen_places}
 use Rattle.order_check.proofs.Laws.{refused_read, refused_later, valid_order, order_tags, order_judged}
 use Rattle.order_check.proofs.check_order.Goals as goal
 
@@ -25,6 +25,10 @@ returns-in_err-refusal c =
     let read = c.in_ok-read.ensures in
     let handed : check_order st m o ≡ check_order (settings_of c.args.settings.now) (market_of c.args.market.now) o = ap₂ (λ (st : Settings) (m : Market). check_order st m o) c.settings_of-st.ensures c.market_of-m.ensures in
     rw (← handed, refused_later st m o _ (c.in_err-refusal.ensures.number o.legs o.len _ full (sym read.number) read.good)) (search rules)
+
+-- The arrays have a place for every leg.
+pub arrange-requires-clause-within : goal.arrange-requires-clause-within
+arrange-requires-clause-within c = sixteen_places _ _ (omega arith)
 
 pub judge-requires : goal.judge-requires
 judge-requires c =
