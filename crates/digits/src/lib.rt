@@ -2,7 +2,7 @@
 #![tactic(auto)]
 
 ghost use Rattle.std.specs.Prelude.{◌≡◌, true, ◌+◌, ◌^◌, ◌≤◌, ◌<◌, length};
-ghost use Rattle.rules.specs.Numerals.{value, are_digits};
+ghost use Rattle.rules.specs.Numerals.{value, numeral, are_digits};
 
 // Whether every byte is a digit.
 pub fn are_digits(s: &[u8]) -> bool
@@ -24,6 +24,20 @@ pub fn value_of(digits: &[u8]) -> u64
         n = n * 10 + u64::from(*d - b'0');
     }
     n
+}
+
+// A number in `N` digits, the last one first found.
+pub fn digits_of<const N: usize>(n: u64) -> [u8; N]
+    requires { n < 10 ^ N }
+    ensures { result ≡ numeral 10 48 N n }
+{
+    let mut digits = [b'0'; N];
+    let mut rest = n;
+    for i in (0..N).rev() {
+        digits[i] = byte_of(rest % 10);
+        rest /= 10;
+    }
+    digits
 }
 
 // A number below ten as its digit.

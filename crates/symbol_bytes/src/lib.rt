@@ -1,68 +1,26 @@
 // The bytes of a symbol, from its parts.
 #![tactic(auto)]
 
-ghost use Rattle.std.specs.Prelude.{◌≡◌, ◌<◌};
-ghost use Rattle.rules.specs.Numerals.{numeral};
+ghost use Rattle.std.specs.Prelude.{◌≡◌};
 ghost use Rattle.rules.specs.Symbol.{symbol_of};
 ghost use Rattle.symbol_bytes.specs.Parts.{Fits};
 
-use digits::byte_of;
+use digits::digits_of;
 use root_number::root_bytes;
 use rules::SymbolParts;
-
-// A number in eight digits.
-#[tactic(auto, unfolding(rules::specs::Numerals::numeral))]
-fn eight_bytes(k0: u64) -> [u8; 8]
-    requires { k0 < 100000000 }
-    ensures { result ≡ numeral 10 48 8 k0 }
-{
-    let k1 = k0 % 10000000;
-    let k2 = k1 % 1000000;
-    let k3 = k2 % 100000;
-    let k4 = k3 % 10000;
-    let k5 = k4 % 1000;
-    let k6 = k5 % 100;
-    [
-        byte_of(k0 / 10000000),
-        byte_of(k1 / 1000000),
-        byte_of(k2 / 100000),
-        byte_of(k3 / 10000),
-        byte_of(k4 / 1000),
-        byte_of(k5 / 100),
-        byte_of(k6 / 10),
-        byte_of(k6 % 10),
-    ]
-}
 
 #[tactic(auto, unfolding(rules::specs::Symbol::symbol_of, rules::specs::Numerals::numeral))]
 pub fn symbol_of(p: SymbolParts) -> [u8; 21]
     requires { Fits p }
     ensures { result ≡ symbol_of p }
 {
-    let b = root_bytes(p.root);
-    let year = p.year - 2000;
-    let k = eight_bytes(p.strike.0);
+    let [r0, r1, r2, r3, r4, r5] = root_bytes(p.root);
+    let [y0, y1] = digits_of::<2>(p.year - 2000);
+    let [m0, m1] = digits_of::<2>(p.month);
+    let [d0, d1] = digits_of::<2>(p.day);
+    let [k0, k1, k2, k3, k4, k5, k6, k7] = digits_of::<8>(p.strike.0);
+    let right = p.right as u8;
     [
-        b[0],
-        b[1],
-        b[2],
-        b[3],
-        b[4],
-        b[5],
-        byte_of(year / 10),
-        byte_of(year % 10),
-        byte_of(p.month / 10),
-        byte_of(p.month % 10),
-        byte_of(p.day / 10),
-        byte_of(p.day % 10),
-        p.right as u8,
-        k[0],
-        k[1],
-        k[2],
-        k[3],
-        k[4],
-        k[5],
-        k[6],
-        k[7],
+        r0, r1, r2, r3, r4, r5, y0, y1, m0, m1, d0, d1, right, k0, k1, k2, k3, k4, k5, k6, k7,
     ]
 }
