@@ -1,14 +1,8 @@
 -- The refusals after those that reading finds, and what an order has that none refuses.
-use mathlib.Core.Path.{◌≡◌, refl, sym, ap, ◌∙◌}
-use mathlib.Core.List.{List, [], ◌∷◌, ◌++◌, map}
-use mathlib.Core.Bool.{Bool, true, false, not, ◌&&◌}
-use Prim.Native.Nat.{ℕ, ◌+◌, ◌*◌, ◌/◌, ◌%◌, ◌≤◌, ◌<◌}
-use native.Mathlib.Omega.{arith}
-use lib.ListN.{length, take, drop, get_or, length-append, length-drop, length-map}
-use lib.Seq.{slice, get_or-take, length-take-le, take_at}
-use lib.Dec.{leb}
-use borrow.Author.Tests.{lt-leb, eq-eqb, ne_eqb, not-false}
-use Rattle.std.proofs.Common.{Result, Ok, Err, OnOk}
+use Rattle.std.proofs.Common.{◌≡◌, refl, sym, ap, ◌∙◌, Bool, true, false, not, ◌&&◌, leb, List, [], ◌∷◌, ◌++◌, map, length, take, drop, get_or, ℕ, ◌+◌, ◌*◌, ◌/◌, ◌%◌, ◌≤◌, ◌<◌, arith, length-append, length-drop, eq-eqb, ne_eqb, Result, Ok, Err, OnOk}
+use Rattle.std.proofs.lemmas.Bool.{lt-leb, not-false}
+use Rattle.std.proofs.Math.ListN.{length-map}
+use Rattle.std.proofs.Math.Seq.{slice, get_or-take, length-take-le, take_at}
 use Rattle.rules.specs.declared.RawLeg.{RawLeg}
 use Rattle.rules.specs.declared.Leg.{Leg}
 use Rattle.rules.specs.declared.Terms.{Terms}
@@ -16,12 +10,12 @@ use Rattle.rules.specs.declared.Settings.{Settings}
 use Rattle.rules.specs.declared.Market.{Market}
 use Rattle.rules.specs.Limits.{within}
 use Rattle.rules.specs.Numerals.{are_digits}
-use Rattle.rules.specs.Lists.{All, all, any, some_pair}
+use Rattle.rules.specs.Lists.{All, all, any}
 use Rattle.rules.specs.Symbol.{is_root, in_limits, parts_of, is_symbol}
 use Rattle.rules.specs.Order.{leg_of, legs_of, no_leg}
 use Rattle.rules.specs.Pairing.{digit}
 use Rattle.rules.specs.Market.{settings_hold, market_holds}
-use Rattle.rules.specs.Numbers.{first_of, is_bad_count, is_same_series, is_other_root, is_bad_price, is_bad_shares, refusals, refusal}
+use Rattle.rules.specs.Numbers.{first_of, is_bad_count, is_bad_price, refusals, refusal}
 use Rattle.rules.specs.Valid.{InRange, IsValidLeg, AreValid}
 use Rattle.rules.proofs.Tests.{and_both, and_no, or_neither, within_both}
 use Rattle.rules.proofs.Symbols.{limits}
@@ -124,24 +118,18 @@ module _ (st : Settings) (m : Market) (t : Terms) (read : Read) (places roots so
     (series : SortedTwice read.other (take read.len places) (take read.len roots) sorted twice)
     (priced : (ls : List Leg) → length ls ≡ read.len → (read.len ≡ 1 → (get_or ls 0 no_leg).bought ≡ is_bought (get_or places 0 0 / 16)) → price ≡ is_bad_price t ls)
   where
-    -- they are the definition's, of an order that reading does not refuse
-    same_tests : (legs : List RawLeg) (many : ℕ) (sizes : List ℕ) → length legs ≡ 16 → first_of (read_refusals many (take many legs)) ≡ 0 → GoodRead legs many places sizes roots read
-        → later (some_pair is_same_series (legs_of (take many legs))) (some_pair is_other_root (legs_of (take many legs))) (is_bad_price t (legs_of (take many legs))) t st m ≡ later twice read.other price t st m
-    unfolding legs_of
-    same_tests legs many sizes full none g =
-        let ls = legs_of (take many legs) in
-        let number : length ls ≡ read.len = length-map (take many legs) leg_of ∙ length-take-le many legs (omega (arith, full, few, g.len)) ∙ sym g.len in
-        let s = twice_front read.len read.other places roots sorted twice (omega arith) series ls sizes g.placed number (read_ranges many (take many legs) none) g.other in
-        let p = priced ls number (λ e. first_side places ls (number ∙ e) g.placed.each_tag) in
-        rw (← s, ← g.other, ← p)
-
     module _ (r : Result (Unit {0}) Refusal) (tests : number_of refusal_number r ≡ first_of (later twice read.other price t st m)) where
+      -- they are the definition's, of an order that reading does not refuse
       numbered : (legs : List RawLeg) (many : ℕ) (sizes : List ℕ) → length legs ≡ 16 → first_of (read_refusals many (take many legs)) ≡ 0 → GoodRead legs many places sizes roots read
           → number_of refusal_number r ≡ refusal st m t many (take many legs)
-      unfolding refusal all
+      unfolding legs_of refusal all
       numbered legs many sizes full none g =
-          let first = read_refusals many (take many legs) in
-          tests ∙ ap first_of (sym (same_tests legs many sizes full none g)) ∙ sym (none_before first _ (none_apply first refl none))
+          let rs = take many legs in
+          let ls = legs_of rs in
+          let number : length ls ≡ read.len = length-map rs leg_of ∙ length-take-le many legs (omega (arith, full, few, g.len)) ∙ sym g.len in
+          let s = twice_front read.len read.other places roots sorted twice (omega arith) series ls sizes g.placed number (read_ranges many rs none) g.other in
+          let p = priced ls number (λ e. first_side places ls (number ∙ e) g.placed.each_tag) in
+          tests ∙ rw (s, g.other, p) (sym (none_before (read_refusals many rs) _ (none_apply (read_refusals many rs) refl none)))
 
       -- roots do not differ where nothing is refused
       in_sequence : OnOk r (take read.len (sorted ++ drop read.len places) ≡ sort_keys (take read.len places))
