@@ -94,7 +94,7 @@ pub fn next_field(message: &[u8], at: usize) -> Option<Field>
     })
 }
 
-// The fields of a message from a place on, one after the other.
+// A field reader: a message, and its position between two fields. It gives one field after the other.
 #[derive(Drop)]
 pub struct Fields<'a> {
     pub message: &'a [u8],

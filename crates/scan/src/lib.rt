@@ -101,16 +101,13 @@ fn places_step(message: &[u8], p: Places, f: Field, legs: u64) -> Places
     }
 }
 
-// Whether a tag is a further one. Neighbours are in two arms: in one, the prover takes them for a range.
+// Whether a tag is a further one.
 #[tactic(auto, unfolding(rules::specs::Fix::is_further))]
 fn is_further(tag: u64) -> bool
     ensures { result ≡ is_further tag }
 {
     match tag {
-        8 | 10 | 35 => false,
-        9 | 40 | 44 => false,
-        555 | 600 | 623 => false,
-        624 => false,
+        8 | 9 | 10 | 35 | 40 | 44 | 555 | 600 | 623 | 624 => false,
         _ => true,
     }
 }
