@@ -7,10 +7,10 @@ use native.Mathlib.Omega.{arith}
 use lib.IntN.{ℤ, nat_abs}
 use lib.ListN.{length, get_or, set}
 use borrow.Author.Tests.{ne_eqb}
+use Rattle.std.proofs.lemmas.Int.{ints}
 use mir.Syntax.{w64}
 use mir.Val.{to_z, of_z}
 use Rattle.rules.specs.OpenContracts.{sign, adjusted}
-use Rattle.figure.proofs.Small.{held}
 use Rattle.keys.specs.Tags.{is_bought}
 use Rattle.tagged.specs.declared.PairTally.{PairTally}
 use Rattle.tagged.specs.declared.Step.{Step}
@@ -43,7 +43,7 @@ module _ (tags left : List ℕ) (i at m : ℕ) (s : Step) (sequence : InSequence
 
       -- the figure after the match, as the code reads it
       pub gained : to_z w64 (of_z w64 (adjusted s.figure (sign (is_bought tx)) m)) ≡ adjusted s.figure (sign (is_bought tx)) m
-      gained = held _ (omega (arith, adjusted_small s.figure (is_bought tx) m, figure_small, few_all))
+      gained = omega (arith, ints, adjusted_small s.figure (is_bought tx) m, figure_small, few_all)
 
       pub leaves : i < at → 1 ≤ m
           → Meets tags left (set left at (get_or left at 0 - m)) i at m s (after_match s (not (is_bought tx)) (adjusted s.figure (sign (is_bought tx)) m))

@@ -9,6 +9,7 @@ use lib.Dec.{eqb}
 use lib.IntN.{ℤ, pos, nat_abs, sub_ℕ}
 use lib.ListN.{length, take, drop, get_or, set, length-set, length-drop, take-append-drop, drop_of_length-le}
 use lib.Seq.{get_or-drop, drop-set-lt, drop-set-add, drop-drop}
+use Rattle.std.proofs.lemmas.Int.{ints}
 use mir.Syntax.{w64}
 use mir.Val.{to_z, of_z}
 use borrow.Author.Tests.{eqb-true, eqb-false, eq-eqb, ne_eqb}
@@ -18,7 +19,6 @@ use Rattle.rules.specs.Lists.{All}
 use Rattle.rules.specs.Pairing.{less, matched, reach}
 use Rattle.rules.specs.OpenContracts.{sign, adjusted, shows_other, open_on, open_contracts}
 use Rattle.rules.specs.Order.{no_leg}
-use Rattle.figure.proofs.Small.{held}
 use Rattle.open_contracts.proofs.Open.{Grouping, Lined, open_past, open_few, open_alike, figure_small, one_sided_lem}
 use Rattle.open_contracts.proofs.Sides.{walk_each_two}
 use Rattle.open_contracts.proofs.Searching as searching
@@ -64,10 +64,7 @@ all_set P (x ∷ xs) zero v h p = (p, h.1)
 all_set P (x ∷ xs) (suc j) v h p = (h.0, all_set P xs j v h.1 p)
 
 before : (a b : ℕ) → (a ≡ b → ⊥) → a ≤ b → a < b
-before zero zero d l = absurd (d refl)
-before zero (suc b) d l = omega arith
-before (suc a) zero d l = absurd (omega arith)
-before (suc a) (suc b) d l = let r = before a b (λ e. d (ap suc e)) (omega arith) in omega arith
+before a b d l = omega arith
 
 -- ---- tags that rise
 
@@ -288,7 +285,7 @@ pub figure_bound : (tags left : List ℕ) → InSequence tags left → (i j : �
 figure_bound tags left q i j f counts = rw (counts 0 false) (figure_fits tags left q false 0 (series_in tags false i) j)
 
 pub figure_held : (tags left : List ℕ) → InSequence tags left → (i j : ℕ) (f : ℤ) → Counts tags left i j f → to_z w64 (of_z w64 f) ≡ f
-figure_held tags left q i j f counts = held f (omega (arith, figure_bound tags left q i j f counts))
+figure_held tags left q i j f counts = omega (arith, ints, figure_bound tags left q i j f counts)
 
 -- the figure does not show the other side: the leg at `i` meets nothing
 module _ (tags left : List ℕ) (q : InSequence tags left) (i : ℕ) (h : i < length tags) (f : ℤ) (counts : Counts tags left i (i + 1) f) (one : OneSideOpen tags left i)

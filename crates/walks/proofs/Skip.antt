@@ -4,6 +4,7 @@ use mathlib.Core.List.{List, [], ◌∷◌}
 use mathlib.Core.Bool.{Bool, true, false, cond, not, ◌&&◌, ◌||◌, true≢false}
 use Prim.Native.Nat.{ℕ, min}
 use native.Mathlib.Omega.{arith}
+use Rattle.std.proofs.lemmas.Bool.Decides.{nat_tests}
 use lib.Dec.{eqb}
 use borrow.Author.Tests.{eqb-true}
 use Rattle.rules.specs.declared.Series.{Series}
@@ -22,19 +23,7 @@ module _ (same : Series → Series → Bool) (b : Bool) where
   -- of two legs of one side nothing is matched
   unmatched : (x y : Leg) → on_side b x ≡ true → on_side b y ≡ true → matched same x y ≡ 0
   unfolding matched
-  unmatched x y = go b (same x.series y.series) x.bought y.bought x.size y.size
-    where
-      closed : (n : ℕ) → eqb n 0 || false ≡ true → n ≡ 0
-      closed n h = eqb-true n 0 (sym (or_false (eqb n 0)) ∙ h)
-
-      go : (b g p q : Bool) (m n : ℕ) → eqb m 0 || same_bool b p ≡ true → eqb n 0 || same_bool b q ≡ true → cond (g && not (same_bool p q)) (min m n) 0 ≡ 0
-      go b false p q m n h k = refl
-      go b true true true m n h k = refl
-      go b true false false m n h k = refl
-      go true true true false m n h k = omega (arith, closed n k)
-      go true true false true m n h k = omega (arith, closed m h)
-      go false true true false m n h k = omega (arith, closed m h)
-      go false true false true m n h k = omega (arith, closed n k)
+  unmatched x y h k = grind (arith, nat_tests)
 
   unmatched_each : (x : Leg) (ys : List Leg) → on_side b x ≡ true → all (on_side b) ys ≡ true → All (λ y. matched same x y ≡ 0) ys
   unfolding all
