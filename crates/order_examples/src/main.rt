@@ -6,6 +6,7 @@ ghost use Rattle.std.specs.Prelude.{◌≡◌};
 ghost use Rattle.rules.specs.Numbers.{check_slices};
 ghost use Rattle.rules.specs.Examples.{example_settings, example_market, example_terms};
 
+use answers::said;
 use order_check::check_slices;
 use rules::OrderAnswer;
 use std::io;
@@ -20,19 +21,21 @@ const SETTINGS: [u64; 20] = [
 const MARKET: [u64; 9] = [1, 0, 0, 0, 0, 0, 0, 0, 0];
 
 // Of a limit order with no flags and no shares.
+#[tactic(auto, unfolding(rules::specs::Market::settings_of, rules::specs::Market::market_of))]
 fn answer_to(symbols: &[u8], counts: &[u8], price: i64) -> OrderAnswer
     ensures { result ≡ check_slices (example_settings 0) example_market (example_terms price) symbols.now counts.now }
 {
     let terms = terms_of(price, 0, 0, 0, 0, 0);
-    check_slices(symbols, counts, terms, &SETTINGS, &MARKET)
+    said(check_slices(symbols, counts, terms, &SETTINGS, &MARKET))
 }
 
 fn show<P: Print>(rt: &P, case: &str, symbols: &[u8], counts: &[u8], price: i64) -> io::Result<()> {
-    let answer = answer_to(symbols, counts, price);
-    let number = answer.number;
-    let class = answer.class;
-    let shape = answer.shape;
-    let pairings = answer.pairings;
+    let OrderAnswer {
+        number,
+        class,
+        shape,
+        pairings,
+    } = answer_to(symbols, counts, price);
     println!(rt; "{case}: number {number}, class {class}, shape {shape}, pairings {pairings}")
 }
 

@@ -2,27 +2,39 @@
 #![tactic(auto)]
 
 ghost use Rattle.std.specs.Prelude.{◌≡◌};
+ghost use Rattle.rules.specs.Kinds.{is_accepted};
 ghost use Rattle.rules.specs.Pair.{paired};
+ghost use Rattle.answers.specs.Answers.{answer_said};
 
-use amounts::pick;
-use choice::{both, either};
+use answers::{Answer, said};
 use rules::{PairAnswer, PairSide};
 
-// By the two orders' own numbers, and the mark to continue unpaired.
-#[tactic(auto, unfolding(rules::specs::Pair::paired))]
-pub fn paired(unpaired: u64, agency: u64, contra: u64) -> PairAnswer
-    ensures { result ≡ paired unpaired agency contra }
+// Neither refused nor rejected.
+#[tactic(auto, using(crate::proofs::Laws::not_of_refusal, crate::proofs::Laws::not_of_check))]
+fn is_accepted(answer: Answer) -> bool
+    ensures { result ≡ is_accepted (answer_said answer).number }
 {
-    let pass = both(agency == 0, contra == 0);
-    let alone = both(unpaired != 0, both(agency == 0, contra != 0));
+    match answer {
+        Ok(judged) => judged.verdict.is_ok(),
+        Err(_) => false,
+    }
+}
+
+// By the two orders' own answers, and the mark to continue unpaired.
+#[tactic(auto, unfolding(rules::specs::Pair::paired))]
+pub fn paired(unpaired: u64, agency: Answer, contra: Answer) -> PairAnswer
+    ensures { result ≡ paired unpaired (answer_said agency).number (answer_said contra).number }
+{
+    let pass = is_accepted(agency) && is_accepted(contra);
+    let alone = unpaired != 0 && is_accepted(agency) && !is_accepted(contra);
     PairAnswer {
         agency: PairSide {
-            number: agency,
-            passes: pick(either(pass, alone), 1, 0),
+            number: said(agency).number,
+            passes: u64::from(pass || alone),
         },
         contra: PairSide {
-            number: contra,
-            passes: pick(pass, 1, 0),
+            number: said(contra).number,
+            passes: u64::from(pass),
         },
     }
 }

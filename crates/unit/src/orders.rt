@@ -3,6 +3,7 @@ ghost use Rattle.std.specs.Prelude.{◌≡◌};
 ghost use Rattle.rules.specs.Market.{settings_of, market_of};
 ghost use Rattle.rules.specs.Numbers.{answer_to};
 
+use answers::lend;
 use order_check::check_slices;
 use terms::terms_of;
 
@@ -27,8 +28,5 @@ pub extern "C" fn opc_check_order(
 {
     let terms = terms_of(price, kind, stop, manual, opening, shares);
     let answer = check_slices(symbols, counts, terms, settings, market);
-    *class = answer.class;
-    *shape = answer.shape;
-    *pairings = answer.pairings;
-    answer.number
+    lend(answer, class, shape, pairings)
 }

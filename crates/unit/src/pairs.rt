@@ -9,6 +9,7 @@ use terms::terms_of;
 
 // Checks both orders of a pair. The agency order's number is the result; the contra order's, and which order passes, are
 // lent.
+#[tactic(auto, unfolding(rules::specs::Pair::check_pair))]
 #[unsafe(no_mangle)]
 pub extern "C" fn opc_check_pair(
     agency_symbols: &[u8],
@@ -54,7 +55,7 @@ pub extern "C" fn opc_check_pair(
         contra_shares,
     );
     let contra = check_slices(contra_symbols, contra_counts, terms, settings, market);
-    let answer = paired(continue_unpaired, agency.number, contra.number);
+    let answer = paired(continue_unpaired, agency, contra);
     *contra_number = answer.contra.number;
     *agency_passes = answer.agency.passes;
     *contra_passes = answer.contra.passes;
