@@ -1,17 +1,14 @@
 -- Legs that are open on one side only: the second walk matches nothing, and its loners are theirs.
-use mathlib.Core.Path.{◌≡◌, refl, sym, ◌∙◌}
+use mathlib.Core.Path.{◌≡◌, refl, ◌∙◌}
 use mathlib.Core.List.{List, [], ◌∷◌}
-use mathlib.Core.Bool.{Bool, true, false, cond, not, ◌&&◌, ◌||◌, true≢false}
-use Prim.Native.Nat.{ℕ, min}
+use mathlib.Core.Bool.{Bool, true, false, not, ◌&&◌, true≢false}
 use native.Mathlib.Omega.{arith}
 use Rattle.std.proofs.lemmas.Bool.Decides.{nat_tests}
-use lib.Dec.{eqb}
-use borrow.Author.Tests.{eqb-true}
 use Rattle.rules.specs.declared.Series.{Series}
 use Rattle.rules.specs.declared.Leg.{Leg}
-use Rattle.rules.specs.Lists.{All, same_bool, all}
+use Rattle.rules.specs.Lists.{All, all}
 use Rattle.rules.specs.Pairing.{matched, walk, one_strike, by_expiry}
-use Rattle.rules.proofs.Tests.{and_both, or_false}
+use Rattle.rules.proofs.Tests.{and_both}
 use Rattle.laws.proofs.Sorting.{all_test_perm, sort_is_perm}
 use Rattle.open_contracts.proofs.Open.{idle}
 use Rattle.tagged.specs.Tags.{none}
