@@ -1,5 +1,5 @@
 -- Digits as a loop writes them, from the back.
-use Rattle.std.proofs.Common.{◌≡◌, refl, sym, ap, ◌∙◌, List, [], ◌∷◌, ◌++◌, ℕ, zero, suc, ◌+◌, ◌*◌, ◌/◌, ◌%◌, ◌^◌, ◌<◌, length, set, drop, arith, add-one, ◌-◌, ◌≤◌, append_assoc}
+use Rattle.std.proofs.Common.{◌≡◌, sym, ap, ◌∙◌, List, [], ◌∷◌, ◌++◌, ℕ, zero, suc, ◌+◌, ◌*◌, ◌/◌, ◌%◌, ◌^◌, ◌<◌, length, set, drop, arith, add-one, ◌-◌, ◌≤◌, append_assoc}
 use Rattle.std.proofs.Math.Nat.{pow-zero, pow-suc, div-div-eq-div-mul, mod-lt, one-le-pow}
 use Rattle.std.proofs.Math.Arith.{mod-mul}
 use Rattle.std.proofs.lemmas.List.{drop-set}
@@ -39,8 +39,7 @@ turn zero n ds some inside h w e = absurd (omega (arith, some))
 turn (suc j) n ds {v} {all} some inside h w e =
     let f : suc j - 1 ≡ j = omega arith in
     let g : drop j (set ds j v) ≡ v ∷ drop (suc j) ds = rw (drop-set ds j v (omega arith), add-one) in
-    let k : (numeral 10 48 j (n / 10) ++ ((n % 10 + 48) ∷ [])) ++ drop (suc j) ds ≡ all = rw (last_digit j n h) at e in
-    (
+    let k : (numeral 10 48 j (n / 10) ++ ((n % 10 + 48) ∷ [])) ++ drop (suc j) ds ≡ all = rw (last_digit j n h) at e in (
       rw (f, g, w) (sym (append_assoc (numeral 10 48 j (n / 10)) ((n % 10 + 48) ∷ []) (drop (suc j) ds)) ∙ k),
       rw f (omega (arith, pow-suc 10 j)),
     )

@@ -9,7 +9,7 @@ use lib.ListN.{length, take, drop, get_or, set, length-map, get_or-map}
 use lib.Seq.{slice, get_or-take, take_all}
 use lib.Dec.{eqb}
 use borrow.Author.Tests.{eqb-true, eq-eqb, not-false}
-use Rattle.std.proofs.Common.{Option, Some, None, Result, Ok, Err}
+use Rattle.std.proofs.Common.{Option, Some, None, Ok, Err}
 use Rattle.std.proofs.lemmas.List.{at_drop_more, at_drop_all}
 use Rattle.std.specs.Option.{IfSome, ok_or, unwrap_or}
 use Rattle.answers.specs.declared.Refusal.{Refusal}

@@ -1,5 +1,5 @@
 -- A sum modulo 256 as it is taken byte by byte.
-use Rattle.std.proofs.Common.{◌≡◌, refl, ◌∙◌, List, [], ◌∷◌, ℕ, ◌+◌, ◌%◌, ◌<◌, arith, fold}
+use Rattle.std.proofs.Common.{◌≡◌, ◌∙◌, List, [], ◌∷◌, ℕ, ◌+◌, ◌%◌, ◌<◌, arith, fold}
 use Rattle.rules.specs.Lists.{total}
 
 -- from any sum on

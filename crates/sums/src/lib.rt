@@ -5,7 +5,7 @@ ghost use Rattle.std.specs.Prelude.{◌≡◌, ◌%◌, ◌≤◌, ◌<◌, leng
 ghost use Rattle.rules.specs.Lists.{total, same_numbers};
 ghost use Rattle.rules.specs.Numerals.{numeral};
 
-use digits::byte_of;
+use digits::digits_of;
 
 // The sum modulo 256 of the bytes before the place `to`.
 pub fn sum_before(message: &[u8], to: usize) -> u64
@@ -18,12 +18,10 @@ pub fn sum_before(message: &[u8], to: usize) -> u64
 }
 
 // Whether a value is the sum in three digits.
-#[tactic(auto, unfolding(rules::specs::Numerals::numeral), using(number_values::proofs::Laws::same_bytes))]
+#[tactic(auto, using(number_values::proofs::Laws::same_bytes))]
 pub fn is_sum(v: &[u8], sum: u64) -> bool
     requires { sum < 256 }
     ensures { result ≡ same_numbers v.now (numeral 10 48 3 sum) }
 {
-    let rest = sum % 100;
-    let digits = [byte_of(sum / 100), byte_of(rest / 10), byte_of(rest % 10)];
-    v == digits.as_slice()
+    v == digits_of::<3>(sum).as_slice()
 }

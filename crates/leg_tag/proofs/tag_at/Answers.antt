@@ -1,5 +1,5 @@
 -- What the reader gives is a tag, and it is not 0.
-use Rattle.std.proofs.Common.{arith, ◌≡◌, ◌<◌, ℕ, length, ap, ◌∙◌}
+use Rattle.std.proofs.Common.{ap, ◌∙◌}
 use Rattle.std.specs.Option.{unwrap_or}
 use Rattle.leg_tag.proofs.Tags.{no_tag, parts_few, parts_range, tag_read}
 use Rattle.leg_tag.proofs.tag_at.Goals as goal

@@ -1,5 +1,5 @@
 -- The tests of the number of legs, of each leg, and of the roots, as the definitions make them.
-use Rattle.std.proofs.Common.{rules, arith, ◌≡◌, ◌<◌, refl, sym, ◌∙◌, ◌||◌, not, ap, true, false, List, ℕ, length, take, get_or}
+use Rattle.std.proofs.Common.{rules, arith, ◌≡◌, refl, sym, ◌∙◌, ◌||◌, not, ap, true, false, length, take, get_or}
 use Rattle.std.proofs.lemmas.Result.{err_from_is_err_and}
 use Rattle.std.specs.Option.{unwrap_or}
 use Rattle.answers.specs.declared.Refusal.TheVariants.{BadSymbol, BadCount}
