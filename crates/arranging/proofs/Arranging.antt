@@ -147,7 +147,7 @@ module _ (second : Bool) (ls : List Leg) (few : length ls ≤ 16) (range : All (
       (order : places ≡ sort_keys numbers)
       (counts : take n sizes ≡ map (λ x. x.size) ls)
       (arranged : Arranged places sizes (take n tags) (take n left)) where
-    pub arranged_tags : take n tags ≡ map (tag_of second) (sequenced second ls)
+    arranged_tags : take n tags ≡ map (tag_of second) (sequenced second ls)
     arranged_tags = arranged.each_tag ∙ ap (map (λ p. p / 16)) order ∙ each (sort_keys numbers) says ∙ ap (map (tag_of second)) (sym by_tags)
       where
         each : (ps : List ℕ) → All Says ps → map (λ p. p / 16) ps ≡ map (tag_of second) (map at ps)
@@ -214,7 +214,7 @@ put_back_length n ts xs e = omega (arith, length-append ts (drop n xs), length-a
 -- `ts` and `ss` are what arranging left of the first of `xs` and `ws`
 pub arranged_front : (n : ℕ) (xs sizes ts ss ws : List ℕ) → n ≤ length xs → n ≤ length ws → length ts ≡ length (take n xs) → length ss ≡ length (take n ws) → Arranged (take n xs) sizes ts ss
     → let tags = ts ++ drop n xs in
-      let left = ss ++ drop n ws in Arranged (take n xs) sizes (take n tags) (take n left) × (length tags ≡ length xs) × (length left ≡ length ws)
+    let left = ss ++ drop n ws in Arranged (take n xs) sizes (take n tags) (take n left) × (length tags ≡ length xs) × (length left ≡ length ws)
 arranged_front n xs sizes ts ss ws h k f g a =
     let tags = take_at ts (drop n xs) n (f ∙ length-take-le n xs h) in
     let left = take_at ss (drop n ws) n (g ∙ length-take-le n ws k) in

@@ -1,4 +1,4 @@
--- An array that is filled from the front with one value for each element.
+-- A slice that is filled from the front with one value for each element.
 use mathlib.Core.Path.{◌≡◌, refl, ap}
 use mathlib.Core.List.{List, [], ◌∷◌, ◌++◌, map}
 use Prim.Native.Nat.{ℕ, ◌+◌, ◌<◌}
@@ -15,7 +15,7 @@ module _ {A B : Type 0} (d : A) (f : A → B) where
       → take (i + 1) (set ns i v) ≡ map f (take (i + 1) xs)
   fill_turn xs ns i v h k e g = rw (add-one, take-suc-set ns i v k, take-suc xs i d h, map_append (take i xs) (get_or xs i d ∷ []), g, e)
 
--- an array that is changed from the front, where it stands: `xs` as it came, `ys` with the first `i` changed
+-- a slice that is changed from the front, where it stands: `xs` as it came, `ys` with the first `i` changed
 module _ {A : Type 0} (d : A) (xs ys : List A) (i : ℕ) (old : i < length xs) (new : i < length ys) (others : drop i ys ≡ drop i xs) where
   pub next_same : get_or ys i d ≡ get_or xs i d
   next_same = cc (drop-cons xs i d old, drop-cons ys i d new)

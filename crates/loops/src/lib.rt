@@ -1,2 +1,2 @@
-// No code: the laws by which a loop over the first elements of an array is shown equal to a definition on lists.
+// No code: the laws of a slice that a loop fills from the front.
 #![tactic(auto)]
