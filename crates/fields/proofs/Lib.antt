@@ -1,3 +1,4 @@
 mod Tags
 pub mod Laws
 mod Reading
+mod Ones

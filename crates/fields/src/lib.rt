@@ -68,11 +68,17 @@ fn tag_in(s: &[u8]) -> Option<Tag>
     Some(Tag { number, digits })
 }
 
-// The place of the first byte 1.
+// The place of the first byte 1. `position` would take twice the instructions for each byte.
+#[tactic(auto, using(crate::proofs::Ones::found_here))]
 fn value_len(s: &[u8]) -> Option<usize>
     ensures { result ≡ position (λ b. b == 1) s.now }
 {
-    s.iter().position(|b| *b == 1)
+    for (i, b) in s.iter().enumerate() {
+        if *b == 1 {
+            return Some(i);
+        }
+    }
+    None
 }
 
 // The field at the place `at`.
