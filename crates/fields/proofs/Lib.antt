@@ -1,4 +1,3 @@
 mod Tags
 pub mod Laws
 mod Reading
-mod Ones

@@ -68,17 +68,11 @@ fn tag_in(s: &[u8]) -> Option<Tag>
     Some(Tag { number, digits })
 }
 
-// The place of the first byte 1. `position` would take twice the instructions for each byte.
-#[tactic(auto, using(crate::proofs::Ones::found_here))]
+// The place of the first byte 1.
 fn value_len(s: &[u8]) -> Option<usize>
     ensures { result ≡ position (λ b. b == 1) s.now }
 {
-    for (i, b) in s.iter().enumerate() {
-        if *b == 1 {
-            return Some(i);
-        }
-    }
-    None
+    s.iter().position(|b| *b == 1)
 }
 
 // The field at the place `at`.
