@@ -27,5 +27,7 @@ pub extern "C" fn opc_check_fix_tallied(
     ensures { record { answer = record { number = result; class = class.new; shape = shape.new; pairings = pairings.new }; tally = record { seen = seen.new; refused = refused.new; accepted = accepted.new; rejected = rejected.new } } ≡ check_tallied (record { seen = seen.old; refused = refused.old; accepted = accepted.old; rejected = rejected.old }) (message_call (record { settings = settings_of settings.now; market = market_of market.now; stop = stop; manual = manual; opening = opening }) message.now) }
 {
     let answer = check_fix(message, stop, manual, opening, settings, market);
-    lend_tallied(answer, class, shape, pairings, seen, refused, accepted, rejected)
+    lend_tallied(
+        answer, class, shape, pairings, seen, refused, accepted, rejected,
+    )
 }

@@ -33,5 +33,7 @@ pub extern "C" fn opc_check_order_tallied(
 {
     let terms = terms_of(price, kind, stop, manual, opening, shares);
     let answer = check_slices(symbols, counts, terms, settings, market);
-    lend_tallied(answer, class, shape, pairings, seen, refused, accepted, rejected)
+    lend_tallied(
+        answer, class, shape, pairings, seen, refused, accepted, rejected,
+    )
 }

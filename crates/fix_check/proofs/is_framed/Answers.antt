@@ -11,8 +11,9 @@ returns-in_default c = not_closed c.args.message.now c.args.h c.args.s c.in_defa
 pub returns-then-s-message : goal.returns-then-s-message
 returns-then-s-message c =
     elim c.then-s-message.branch [
-      then-s-message-via-then-s-message w ↦ not_whole c.args.message.now c.args.h c.args.s w.if-s-message.true
-    | then-s-message-via-else-s-message+then-s w ↦ strayed c.args.message.now c.args.h c.args.s w.if-s.true ]
+      | then-s-message-via-then-s-message w ↦ not_whole c.args.message.now c.args.h c.args.s w.if-s-message.true
+      | then-s-message-via-else-s-message+then-s w ↦ strayed c.args.message.now c.args.h c.args.s w.if-s.true
+    ]
 
 pub overflow_sub-size : goal.overflow_sub-size
 overflow_sub-size c = (tail_stands c.args.message.now c.args.h c.args.s c.in-Some.is c.if-s-message.false c.if-s.false c.requires).0
