@@ -8,7 +8,6 @@ ghost use Rattle.rules.specs.declared.Market.{Market};
 ghost use Rattle.rules.specs.Order.{is_complex};
 ghost use Rattle.rules.specs.Class.{shape_of};
 ghost use Rattle.rules.specs.Checks.{debit_credit, allowance, has_maximum, maximum_value};
-ghost use Rattle.rules.specs.Market.{settings_hold};
 ghost use Rattle.rules.specs.Numbers.{rejection};
 ghost use Rattle.rules.specs.Valid.{ComplexOrder};
 ghost use Rattle.answers.specs.Answers.{number_of, check_number, class_number, shape_number};
@@ -16,7 +15,8 @@ ghost use Rattle.keys.specs.Tags.{legs_from};
 
 use answers::{Check, Class, Shape, fail_if};
 use buy_buy::buy_buy;
-use rules::{Settings, Terms};
+use limits::Held;
+use rules::Terms;
 use strikes::maximum_of;
 use terms::{has_shares, is_negative, is_positive};
 
@@ -35,13 +35,13 @@ fn debit_credit(t: Terms, class: Class) -> bool
 
 // A: the percentage of M, raised to the preset minimum, then lowered to the preset maximum.
 #[tactic(auto, using(laws::proofs::Bounds::settings_bounds, crate::proofs::Laws::share_bound), unfolding(rules::specs::Checks::allowance))]
-fn allowance(st: Settings, m: u64) -> u64
-    requires { (settings_hold st ≡ true) × (m ≤ 99999999) }
-    ensures { (result ≡ allowance st m) × (result ≤ 1000000) }
+fn allowance(h: &Held, m: u64) -> u64
+    requires { m ≤ 99999999 }
+    ensures { (result ≡ allowance h.now.settings m) × (result ≤ 1000000) }
 {
-    let share = m * st.percentage / 10000;
-    let raised = share.max(st.presetminimum.0);
-    raised.min(st.presetmaximum.0)
+    let share = m * h.settings.percentage / 10000;
+    let raised = share.max(h.settings.presetminimum.0);
+    raised.min(h.settings.presetmaximum.0)
 }
 
 // The shapes that have a maximum value.
@@ -52,22 +52,21 @@ fn has_maximum(shape: Shape) -> bool
 }
 
 // Check 24, which is not for orders with shares. It asks for the unit counts only in the shape.
-fn maximum_value(st: Settings, t: Terms, tags: &[u64], shape: Shape) -> bool
-    requires { settings_hold st ≡ true }
+fn maximum_value(h: &Held, t: Terms, tags: &[u64], shape: Shape) -> bool
     ensures { (root : ℕ) (units : List ℕ) → length units ≡ length tags.now
         → shape_number shape ≡ shape_of (legs_from root false tags.now units)
-        → result ≡ maximum_value st t (legs_from root false tags.now units) }
+        → result ≡ maximum_value h.now.settings t (legs_from root false tags.now units) }
 {
     if has_shares(t) || !has_maximum(shape) {
         return false;
     }
     let m = maximum_of(tags);
-    m + allowance(st, m) < t.price.size.0
+    m + allowance(h, m) < t.price.size.0
 }
 
 // The first check that applies. The others are of simple orders.
 pub fn rejection(
-    st: Settings,
+    h: &Held,
     t: Terms,
     tags: &[u64],
     units: &[u64],
@@ -75,13 +74,14 @@ pub fn rejection(
     shape: Shape,
 ) -> Result<(), Check>
     requires { (length tags.now ≡ length units.now)
-        × ComplexOrder st t (legs_from 0 false tags.now units.now)
+        × ComplexOrder h.now.settings t (legs_from 0 false tags.now units.now)
         × (shape_number shape ≡ shape_of (legs_from 0 false tags.now units.now)) }
     ensures { (root : ℕ) (m : Market)
-        → number_of check_number result ≡ rejection st m t (legs_from root false tags.now units.now) (class_number class) }
+        → number_of check_number result ≡ rejection h.now.settings m t (legs_from root false tags.now units.now) (class_number class) }
 {
+    let st = &h.settings;
     fail_if(
-        st.check22 != 0 && buy_buy(st, t, tags, units),
+        st.check22 != 0 && buy_buy(h.settings, t, tags, units),
         Check::BuyBuy,
     )?;
     fail_if(
@@ -89,7 +89,7 @@ pub fn rejection(
         Check::DebitCredit,
     )?;
     fail_if(
-        st.check24 != 0 && maximum_value(st, t, tags, shape),
+        st.check24 != 0 && maximum_value(h, t, tags, shape),
         Check::MaximumValue,
     )
 }

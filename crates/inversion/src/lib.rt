@@ -1,13 +1,13 @@
 // Check 26, quote inversion.
 #![tactic(auto)]
 
-ghost use Rattle.std.specs.Prelude.{◌≡◌, true, ◌≤◌};
-ghost use Rattle.rules.specs.Market.{settings_hold, market_holds};
+ghost use Rattle.std.specs.Prelude.{◌≡◌, ◌≤◌};
 ghost use Rattle.rules.specs.Quote.{comparison, set_distance, is_inverted, is_quoting, quote_inversion};
 
 use distance::{distance, tick_at};
+use limits::Held;
 use reference::is_unusable;
-use rules::{Market, Mills, Settings};
+use rules::{Market, Mills};
 use sides::{Quote, at_or_past, is_beyond, national, own};
 
 #[tactic(auto, unfolding(rules::specs::Quote::comparison))]
@@ -23,23 +23,21 @@ fn comparison(bought: bool, m: Market) -> Mills
 
 // The set ticks as mills, of the tick at `p`.
 #[tactic(auto, using(laws::proofs::Bounds::settings_bounds, laws::proofs::Bounds::tick_bound, laws::proofs::Bounds::distance_bound), unfolding(rules::specs::Quote::set_distance))]
-fn set_distance(st: Settings, p: Mills) -> Mills
-    requires { settings_hold st ≡ true }
-    ensures { (result ≡ set_distance st p) × (result.0 ≤ 1000000) }
+fn set_distance(h: &Held, p: Mills) -> Mills
+    ensures { (result ≡ set_distance h.now.settings p) × (result.0 ≤ 1000000) }
 {
-    distance(st.setticks, tick_at(st, p))
+    distance(h.settings.setticks, tick_at(h.settings, p))
 }
 
 // One side of a quote: the bid (`bought`) or the offer. Where the own price stands in for the national best it equals
 // the comparison price, and the set ticks apply.
 #[tactic(auto, using(laws::proofs::Bounds::comparison_bound), unfolding(rules::specs::Quote::is_inverted))]
-pub fn is_inverted(bought: bool, st: Settings, m: Market, price: Mills) -> bool
-    requires { (settings_hold st ≡ true) × (market_holds m ≡ true) }
-    ensures { result ≡ is_inverted bought st m price }
+pub fn is_inverted(bought: bool, h: &Held, price: Mills) -> bool
+    ensures { result ≡ is_inverted bought h.now.settings h.now.market price }
 {
-    let p = comparison(bought, m);
-    let o = own(bought, m);
-    let d = set_distance(st, p);
+    let p = comparison(bought, h.market);
+    let o = own(bought, h.market);
+    let d = set_distance(h, p);
     let past = if o.0 == p.0 {
         is_beyond(bought, price, p, d)
     } else {
@@ -56,9 +54,8 @@ fn is_quoting(m: Market) -> bool
 }
 
 #[tactic(auto, unfolding(rules::specs::Quote::quote_inversion))]
-pub fn quote_inversion(st: Settings, m: Market, q: Quote) -> bool
-    requires { (settings_hold st ≡ true) × (market_holds m ≡ true) }
-    ensures { result ≡ quote_inversion st m q.bid q.offer }
+pub fn quote_inversion(h: &Held, q: Quote) -> bool
+    ensures { result ≡ quote_inversion h.now.settings h.now.market q.bid q.offer }
 {
-    is_quoting(m) && (is_inverted(true, st, m, q.bid) || is_inverted(false, st, m, q.offer))
+    is_quoting(h.market) && (is_inverted(true, h, q.bid) || is_inverted(false, h, q.offer))
 }

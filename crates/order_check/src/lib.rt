@@ -27,11 +27,11 @@ pub fn check_order(o: Order, settings: &[u64], market: &[u64]) -> Answer
     let mut sizes = [0u64; 16];
     let mut roots = [0u64; 16];
     let read = read_legs(&o.legs, o.len, &mut places, &mut sizes, &mut roots)?;
-    refusal(read, o.terms, &mut places, &roots, st, m)?;
+    let held = refusal(read, o.terms, &mut places, &roots, st, m)?;
     let n = read.len;
     let mut left = [0u64; 16];
     arrange(&mut places[..n], &sizes, &mut left[..n]);
-    Ok(judge(st, m, o.terms, &places, &mut left, n))
+    Ok(judge(&held, o.terms, &places, &mut left, n))
 }
 
 // The order check on the host's slices. A record has no place for more legs than 16.

@@ -20,6 +20,7 @@ use Rattle.rules.specs.Valid.{InRange, IsValidLeg, AreValid}
 use Rattle.rules.proofs.Tests.{and_both, and_no, or_neither, within_both}
 use Rattle.rules.proofs.Symbols.{limits}
 use Rattle.rules.proofs.Numbering.{none_apply}
+use Rattle.limits.specs.declared.Held.{Held}
 use Rattle.answers.specs.declared.Refusal.{Refusal}
 use Rattle.answers.specs.Answers.{refusal_number, number_of}
 use Rattle.sorting.specs.Keys.{sort_keys, with_places}
@@ -118,7 +119,7 @@ module _ (st : Settings) (m : Market) (t : Terms) (read : Read) (places roots so
     (series : SortedTwice read.other (take read.len places) (take read.len roots) sorted twice)
     (priced : (ls : List Leg) → length ls ≡ read.len → (read.len ≡ 1 → (get_or ls 0 no_leg).bought ≡ is_bought (get_or places 0 0 / 16)) → price ≡ is_bad_price t ls)
   where
-    module _ (r : Result (Unit {0}) Refusal) (tests : number_of refusal_number r ≡ first_of (later twice read.other price t st m)) where
+    module _ (r : Result Held Refusal) (tests : number_of refusal_number r ≡ first_of (later twice read.other price t st m)) where
       -- they are the definition's, of an order that reading does not refuse
       numbered : (legs : List RawLeg) (many : ℕ) (sizes : List ℕ) → length legs ≡ 16 → first_of (read_refusals many (take many legs)) ≡ 0 → GoodRead legs many places sizes roots read
           → number_of refusal_number r ≡ refusal st m t many (take many legs)
@@ -136,8 +137,8 @@ module _ (st : Settings) (m : Market) (t : Terms) (read : Read) (places roots so
       unfolding all
       in_sequence = go r tests
         where
-          go : (r : Result (Unit {0}) Refusal) → number_of refusal_number r ≡ first_of (later twice read.other price t st m) → OnOk r (take read.len (sorted ++ drop read.len places) ≡ sort_keys (take read.len places))
-          go (Ok u) e =
+          go : (r : Result Held Refusal) → number_of refusal_number r ≡ first_of (later twice read.other price t st m) → OnOk r (take read.len (sorted ++ drop read.len places) ≡ sort_keys (take read.len places))
+          go (Ok h) e =
               take_at sorted (drop read.len places) read.len (long ∙ length-take-le read.len places (omega arith)) ∙ series.sorted (none_apply (later twice read.other price t st m) refl (sym e)).1.0
           go (Err x) e = tt
 

@@ -1,14 +1,14 @@
 // The refusals of an order record whose legs are read: the first that applies.
 #![tactic(auto)]
 
-ghost use Rattle.std.specs.Prelude.{◌≡◌, ◌≤◌};
+ghost use Rattle.std.specs.Prelude.{◌≡◌, ◌≤◌, IfOk};
 ghost use Rattle.rules.specs.Numbers.{first_of};
 ghost use Rattle.answers.specs.Answers.{refusal_number, number_of};
 ghost use Rattle.validity.specs.Orders.{later, Refuses};
 
 use answers::{Refusal, fail_if};
 use keys::is_bought;
-use limits::{market_holds, settings_hold};
+use limits::{Held, within_limits};
 use reading::Read;
 use refusals::{is_bad_price, is_bad_shares};
 use rules::{Market, Settings, Terms};
@@ -23,15 +23,15 @@ fn later(
     t: Terms,
     st: Settings,
     m: Market,
-) -> Result<(), Refusal>
-    ensures { number_of refusal_number result ≡ first_of (later twice other price t st m) }
+) -> Result<Held, Refusal>
+    ensures number { number_of refusal_number result ≡ first_of (later twice other price t st m) }
+    ensures kept { IfOk result (λ h. (h.settings ≡ st) × (h.market ≡ m)) }
 {
     fail_if(twice, Refusal::SeriesTwice)?;
     fail_if(other, Refusal::RootsDiffer)?;
     fail_if(price, Refusal::BadPrice)?;
     fail_if(is_bad_shares(t), Refusal::BadShares)?;
-    fail_if(!settings_hold(st), Refusal::BadSetting)?;
-    fail_if(!market_holds(m), Refusal::BadMarket)
+    within_limits(st, m)
 }
 
 // Sorts the places of an order that is not refused. A simple order has one place, which says its side; of a complex one
@@ -43,9 +43,10 @@ pub fn refusal(
     roots: &[u64; 16],
     st: Settings,
     m: Market,
-) -> Result<(), Refusal>
+) -> Result<Held, Refusal>
     requires { read.len ≤ 16 }
-    ensures { Refuses st m t read places.old roots.now places.new result }
+    ensures refuses { Refuses st m t read places.old roots.now places.new result }
+    ensures kept { IfOk result (λ h. (h.settings ≡ st) × (h.market ≡ m)) }
 {
     let bought = is_bought(places[0] / 16);
     let len = read.len;

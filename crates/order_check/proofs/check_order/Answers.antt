@@ -16,15 +16,15 @@ returns-in_err-read c =
     let handed : check_order st m o ≡ check_order (settings_of c.args.settings.now) (market_of c.args.market.now) o = ap₂ (λ (st : Settings) (m : Market). check_order st m o) c.settings_of-st.ensures c.market_of-m.ensures in
     rw (← handed, refused_read st m o _ c.in_err-read.ensures.number) (search rules)
 
-pub returns-in_err-refusal : goal.returns-in_err-refusal
-returns-in_err-refusal c =
+pub returns-in_err-held : goal.returns-in_err-held
+returns-in_err-held c =
     let o = c.args.o in
     let st = c.settings_of-st.result in
     let m = c.market_of-m.result in
     let full : length o.legs ≡ 16 = omega arith in
     let read = c.in_ok-read.ensures in
     let handed : check_order st m o ≡ check_order (settings_of c.args.settings.now) (market_of c.args.market.now) o = ap₂ (λ (st : Settings) (m : Market). check_order st m o) c.settings_of-st.ensures c.market_of-m.ensures in
-    rw (← handed, refused_later st m o _ (c.in_err-refusal.ensures.number o.legs o.len _ full (sym read.number) read.good)) (search rules)
+    rw (← handed, refused_later st m o _ (c.in_err-held.ensures.refuses.number o.legs o.len _ full (sym read.number) read.good)) (search rules)
 
 -- The arrays have a place for every leg.
 pub arrange-requires-clause-within : goal.arrange-requires-clause-within
@@ -37,12 +37,12 @@ judge-requires c =
     let m = c.market_of-m.result in
     let full : length o.legs ≡ 16 = omega arith in
     let read = c.in_ok-read.ensures in
-    let refuses = c.in_ok-refusal.ensures in
+    let refuses = c.in_ok-held.ensures.refuses in
     let none = sym (refuses.number o.legs o.len _ full (sym read.number) read.good) in
     let v = valid_order st m o _ _ _ _ _ read.good none refuses.sorted in
     let a = arranged_front c.in_ok-read.read.len c.refusal.new.places _ c.arrange.new.places c.arrange.new.left _ (omega arith) (omega arith) c.arrange.auto.places c.arrange.auto.left c.arrange.ensures in
     let t = order_tags st m o _ _ _ _ _ read.good none refuses.sorted full _ _ a.0 (a.1 ∙ refuses.full) a.2 in
-    (v.3, v.4, t, rw read.good.len v.0)
+    (t, rw read.good.len v.0)
 
 pub returns : goal.returns
 returns c =
@@ -51,8 +51,8 @@ returns c =
     let m = c.market_of-m.result in
     let full : length o.legs ≡ 16 = omega arith in
     let read = c.in_ok-read.ensures in
-    let refuses = c.in_ok-refusal.ensures in
+    let refuses = c.in_ok-held.ensures.refuses in
     let none = sym (refuses.number o.legs o.len _ full (sym read.number) read.good) in
     let handed : check_order st m o ≡ check_order (settings_of c.args.settings.now) (market_of c.args.market.now) o = ap₂ (λ (st : Settings) (m : Market). check_order st m o) c.settings_of-st.ensures c.market_of-m.ensures in
     let a = arranged_front c.in_ok-read.read.len c.refusal.new.places _ c.arrange.new.places c.arrange.new.left _ (omega arith) (omega arith) c.arrange.auto.places c.arrange.auto.left c.arrange.ensures in
-    order_judged st m o _ _ _ _ _ read.good none refuses.sorted full _ _ a.0 _ c.judge.ensures ∙ handed
+    order_judged st m o _ _ _ _ _ read.good none refuses.sorted full _ _ a.0 _ (rw (c.in_ok-held.ensures.kept.0, c.in_ok-held.ensures.kept.1) at c.judge.ensures) ∙ handed

@@ -6,8 +6,8 @@ use Rattle.simple_checks.proofs.rejection.Goals as goal
 
 pub returns-in_err-fail_if-2 : goal.returns-in_err-fail_if-2
 unfolding first_of
-returns-in_err-fail_if-2 c class = rw (← of_one_leg c.args.st c.args.m c.args.t c.args.u class c.requires.2) (search rules)
+returns-in_err-fail_if-2 c class = rw (← of_one_leg c.args.h.now.settings c.args.h.now.market c.args.t c.args.u class c.requires) (search rules)
 
 pub returns : goal.returns
 unfolding first_of
-returns c class = rw (← of_one_leg c.args.st c.args.m c.args.t c.args.u class c.requires.2) (search rules)
+returns c class = rw (← of_one_leg c.args.h.now.settings c.args.h.now.market c.args.t c.args.u class c.requires) (search rules)
