@@ -1,7 +1,7 @@
 // One login of a session: read from its place, tested, changed, and put back.
 #![tactic(auto)]
 
-ghost use Rattle.std.specs.Prelude.{◌≡◌, false, ◌<◌, ◌≤◌, length};
+ghost use Rattle.std.specs.Prelude.{◌≡◌, false, ◌<◌, ◌≤◌};
 ghost use Rattle.rules.specs.Tally.{is_bad_tally};
 ghost use Rattle.rules.specs.Session.{login_at, with_login, is_rejection_limit, is_bad_login, counted_login, released_login};
 ghost use Rattle.answers.specs.Answers.{answer_said};
@@ -13,8 +13,8 @@ use tally::{counted, is_broken, is_rejected};
 
 // Reads a login from its six places.
 #[tactic(auto, using(crate::proofs::Laws::chunk_read), unfolding(rules::specs::Session::login_at))]
-pub fn login_at(session: &[u64], i: usize) -> Login
-    requires { (i < 32) × (length session.now ≡ 192) }
+pub fn login_at(session: &[u64; 192], i: usize) -> Login
+    requires { i < 32 }
     ensures { result ≡ login_at session.now i }
 {
     let [limit, seen, refused, accepted, rejected, running] = session.as_chunks::<6>().0[i];
@@ -33,8 +33,8 @@ pub fn login_at(session: &[u64], i: usize) -> Login
 // Stores a login in its six places; the others stay. One by one: to copy them as an array makes a session's start three
 // times as long.
 #[tactic(auto, using(crate::proofs::Laws::stored_login))]
-pub fn place_login(session: &mut [u64], i: usize, l: Login)
-    requires { (i < 32) × (length session.old ≡ 192) }
+pub fn place_login(session: &mut [u64; 192], i: usize, l: Login)
+    requires { i < 32 }
     ensures { session.new ≡ with_login session.old i l }
 {
     let at = 6 * i;

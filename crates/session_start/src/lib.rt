@@ -1,26 +1,25 @@
 // The start of a session: 32 limits, and a fresh login for each.
 #![tactic(auto)]
 
-ghost use Rattle.std.specs.Prelude.{◌≡◌, ◌&&◌, eqb, length};
+ghost use Rattle.std.specs.Prelude.{◌≡◌};
 ghost use Rattle.rules.specs.Lists.{all};
 ghost use Rattle.rules.specs.Session.{is_rejection_limit, session_of, start_session};
 ghost use Rattle.answers.specs.Answers.{refusal_number, number_of};
 
-use answers::{Refusal, fail_if};
+use answers::Refusal;
 use logins::{is_limit, place_login};
 use rules::{Login, Tally};
 
-// Whether there are 32, each within its range.
-fn are_limits(limits: &[u64]) -> bool
-    ensures { result ≡ eqb (length limits.now) 32 && all is_rejection_limit limits.now }
+// Whether each is within its range.
+fn are_limits(limits: &[u64; 32]) -> bool
+    ensures { result ≡ all is_rejection_limit limits.now }
 {
-    limits.len() == 32 && limits.iter().all(|n| is_limit(*n))
+    limits.iter().all(|n| is_limit(*n))
 }
 
 // Each login anew, with its limit.
 #[tactic(auto, using(crate::proofs::Laws::filled_next, crate::proofs::Laws::filled_all), unfolding(rules::specs::Session::session_of))]
-fn fill(limits: &[u64], session: &mut [u64])
-    requires { (length limits.now ≡ 32) × (length session.old ≡ 192) }
+fn fill(limits: &[u64; 32], session: &mut [u64; 192])
     ensures { session.new ≡ session_of limits.now }
 {
     let tally = Tally {
@@ -45,11 +44,15 @@ pub fn start(limits: &[u64], session: &mut [u64]) -> Result<(), Refusal>
     ensures value { number_of refusal_number result ≡ (start_session limits.now session.old).number }
     ensures session_after { session.new ≡ (start_session limits.now session.old).session }
 {
-    fail_if(session.len() != 192, Refusal::BadTally)?;
-    if !are_limits(limits) {
-        session.fill(0);
-        return Err(Refusal::BadSetting);
+    let session = session.as_mut_array::<192>().ok_or(Refusal::BadTally)?;
+    match limits.as_array::<32>() {
+        Some(limits) if are_limits(limits) => {
+            fill(limits, session);
+            Ok(())
+        }
+        _ => {
+            session.fill(0);
+            Err(Refusal::BadSetting)
+        }
     }
-    fill(limits, session);
-    Ok(())
 }
