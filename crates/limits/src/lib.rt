@@ -20,7 +20,7 @@ pub struct Held {
 }
 
 #[tactic(auto, unfolding(rules::specs::Market::settings_hold, rules::specs::Lists::every))]
-fn settings_hold(st: Settings) -> bool
+pub fn settings_hold(st: Settings) -> bool
     ensures { result ≡ settings_hold st }
 {
     within(1, 1000, st.lowtick.0)
@@ -38,7 +38,7 @@ fn settings_hold(st: Settings) -> bool
 }
 
 #[tactic(auto, unfolding(rules::specs::Market::market_holds, rules::specs::Lists::every))]
-fn market_holds(m: Market) -> bool
+pub fn market_holds(m: Market) -> bool
     ensures { result ≡ market_holds m }
 {
     within(0, 2, m.phase)
