@@ -1,7 +1,6 @@
 -- Legs of one side are of the first leg's, and their sum times the increment fits.
-use Rattle.std.proofs.Common.{arith}
+use Rattle.std.proofs.Common.{rules, arith}
 use Rattle.std.proofs.lemmas.Nat.{mul-le}
-use Rattle.std.proofs.lemmas.Grind.{common_steps}
 use Rattle.laws.proofs.Bounds.{settings_bounds}
 use Rattle.buy_buy.proofs.Laws.{some, sum_small, buy_buy_read}
 use Rattle.buy_buy.proofs.buy_buy.Goals as goal
@@ -24,10 +23,10 @@ pub returns-then-all_on : goal.returns-then-all_on
 returns-then-all_on c = λ root.
     let a = c.args in
     let r = buy_buy_read a.st a.t a.tags.now a.units.now c.requires.0 c.requires.1 c.is_bought-side.result c.is_bought-side.ensures root in
-    grind (arith, common_steps)
+    search rules
 
 pub returns-else-all_on : goal.returns-else-all_on
 returns-else-all_on c = λ root.
     let a = c.args in
     let r = buy_buy_read a.st a.t a.tags.now a.units.now c.requires.0 c.requires.1 c.is_bought-side.result c.is_bought-side.ensures root in
-    grind (arith, common_steps)
+    search rules

@@ -1,6 +1,5 @@
 -- M is as of as many unit counts as there are tags: the tags themselves are so many.
-use Rattle.std.proofs.Common.{refl, ap, false, arith}
-use Rattle.std.proofs.lemmas.Grind.{common_steps}
+use Rattle.std.proofs.Common.{rules, refl, ap, false, arith}
 use Rattle.rules.specs.Checks.{has_maximum}
 use Rattle.keys.specs.Tags.{legs_from}
 use Rattle.complex_checks.proofs.Laws.{maximum_read, maximum_bound}
@@ -20,11 +19,11 @@ pub returns-then-has_shares : goal.returns-then-has_shares
 returns-then-has_shares c = λ root units full shape.
     let read = maximum_read c.args.h.now.settings c.args.t (legs_from root false c.args.tags.now units) in
     let has = ap has_maximum shape in
-    grind (arith, common_steps)
+    search rules
 
 pub returns : goal.returns
 returns c = λ root units full shape.
     let read = maximum_read c.args.h.now.settings c.args.t (legs_from root false c.args.tags.now units) in
     let has = ap has_maximum shape in
     let m = c.maximum_of-m.ensures root units full in
-    grind (arith, common_steps)
+    search rules

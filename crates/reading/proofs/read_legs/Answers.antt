@@ -15,7 +15,7 @@ loop-i-init c = none_read _ _ _ _
 pub returns-in_err-tag-clause-number : goal.returns-in_err-tag-clause-number
 unfolding first_of
 returns-in_err-tag-clause-number c =
-    let some : within 1 16 c.args.n ≡ true = grind arith in
+    let some : within 1 16 c.args.n ≡ true = search rules in
     let long : length (get_or (take c.args.n c.args.legs.now) c.loop-i.i no_raw_leg).symbol ≡ 21 = search rules in
     let u = untagged c.tag_at.result BadSymbol c.in_err-tag.ensures.value in
     let bad = bad_symbol (take c.args.n c.args.legs.now) c.loop-i.invariant (omega arith) long (sym u.1 ∙ c.tag_at.ensures.tag) in
@@ -33,17 +33,17 @@ loop-i-preserved c =
 pub returns-in_err-fail_if-2-clause-number : goal.returns-in_err-fail_if-2-clause-number
 unfolding first_of
 returns-in_err-fail_if-2-clause-number c =
-    let some : within 1 16 c.args.n ≡ true = grind arith in
+    let some : within 1 16 c.args.n ≡ true = search rules in
     let a = all_read (take c.args.n c.args.legs.now) c.loop-i.invariant (omega arith) (omega arith) in
     let p = err_from_is_err_and c.from_residual-in_err-fail_if-2.result c.from_residual-in_err-fail_if-2.ensures.1 in
-    let bad : c.loop-i.bad ≡ true = grind arith in
+    let bad : c.loop-i.bad ≡ true = search rules in
     let e : c.in_err-fail_if-2.field-0.0 ≡ BadCount = grind arith in
     rw (p.1, p.2, e, some, a.symbols, a.counts, bad)
 
 pub returns-clause-number : goal.returns-clause-number
 unfolding first_of
 returns-clause-number c =
-    let some : within 1 16 c.args.n ≡ true = grind arith in
+    let some : within 1 16 c.args.n ≡ true = search rules in
     let a = all_read (take c.args.n c.args.legs.now) c.loop-i.invariant (omega arith) (omega arith) in
     let bad : c.loop-i.bad ≡ false = grind arith in
     rw (some, a.symbols, a.counts, bad)
