@@ -1,14 +1,16 @@
 -- The tag that bytes begin with.
 use mathlib.Core.Path.{◌≡◌, refl, sym, ap}
-use mathlib.Core.Bool.{Bool, true, false}
-use mathlib.Core.List.{List}
-use Prim.Native.Nat.{ℕ, ◌≤◌, ◌<◌}
+use mathlib.Core.Bool.{Bool, true, false, cond}
+use mathlib.Core.List.{List, [], ◌∷◌}
+use Prim.Native.Nat.{ℕ, zero, suc, min, ◌≤◌, ◌<◌}
 use native.Mathlib.Omega.{arith}
 use lib.Dec.{eqb}
 use lib.ListN.{length, get_or, take, get_or-eq_default}
 use lib.Seq.{length-take-le}
 use borrow.Author.Tests.{le-leb, lt-leb, eq-eqb, ne_eqb}
 use Rattle.std.specs.Prelude.{Option, Some, None}
+use Rattle.std.proofs.lemmas.List.{take_min}
+use Rattle.rules.specs.Symbol.{is_digit}
 use Rattle.rules.specs.Fix.{leading_digits, is_field, tag_of, is_number}
 use Rattle.rules.proofs.Tests.{and_no}
 use Rattle.number_values.proofs.Laws.{leading_few, leading_lem, number_of_parts}
@@ -16,19 +18,38 @@ use Rattle.fields.specs.declared.Tag.{Tag}
 use Rattle.fields.specs.Steps.{tag_in}
 use Rattle.fields.proofs.Laws.{field_parts}
 
+-- ---- the digits of the first bytes are those of all bytes, up to so many
+
+digits_of_first : (n : ℕ) (s : List ℕ) → leading_digits (take n s) ≡ min n (leading_digits s)
+unfolding leading_digits
+digits_of_first zero s = omega arith
+digits_of_first (suc n) [] = omega arith
+digits_of_first (suc n) (b ∷ s) = go (is_digit b) (digits_of_first n s)
+  where
+    go : (d : Bool) → leading_digits (take n s) ≡ min n (leading_digits s) → cond d (suc (leading_digits (take n s))) 0 ≡ min (suc n) (cond d (suc (leading_digits s)) 0)
+    go true h = omega arith
+    go false h = omega arith
+
+-- the first ten bytes, as code lends them
+pub first_ten : (s : List ℕ) → take (min (length s) 10) s ≡ take 10 s
+first_ten s = search (arith, take_min)
+
 -- ---- the test, by cases
 
-module _ (s : List ℕ) (k : ℕ) (e : k ≡ leading_digits s) where
+module _ (s : List ℕ) (k : ℕ) (e : k ≡ leading_digits (take 10 s)) where
+  all_digits : k ≤ 9 → k ≡ leading_digits s
+  all_digits h = omega (arith, digits_of_first 10 s)
+
   pub no_digit : k < 1 → false ≡ is_field s
   unfolding is_field
-  no_digit h = rw (← e, lt-leb 1 k h)
+  no_digit h = let a = all_digits (omega arith) in rw (← a, lt-leb 1 k h)
 
   pub ten_digits : 9 < k → false ≡ is_field s
   unfolding is_field
-  ten_digits h = rw (← e, lt-leb k 9 h, and_no)
+  ten_digits h = let m : 9 < leading_digits s = omega (arith, digits_of_first 10 s) in rw (lt-leb (leading_digits s) 9 m, and_no)
 
   pub digit_inside : 1 ≤ k → 0 < length s
-  digit_inside h = omega (arith, leading_few s)
+  digit_inside h = omega (arith, digits_of_first 10 s, leading_few s)
 
   pub not_nought : get_or s 0 0 ≡ 48 → false ≡ is_field s
   unfolding is_field
@@ -36,21 +57,25 @@ module _ (s : List ℕ) (k : ℕ) (e : k ≡ leading_digits s) where
 
   pub not_cut : length s ≤ k → false ≡ is_field s
   unfolding is_field
-  not_cut h = rw (← e, get_or-eq_default s 0 h, and_no)
+  not_cut h = let l : length s ≤ leading_digits s = omega (arith, digits_of_first 10 s) in rw (get_or-eq_default s 0 l, and_no)
 
   pub tag_stands : 1 ≤ k → k ≤ 9 → (get_or s 0 0 ≡ 48 → ⊥) → eqb (get_or s k 0) 61 ≡ is_field s
   unfolding is_field
-  tag_stands l h n = rw (← e, le-leb 1 k l, le-leb k 9 h, ne_eqb (get_or s 0 0) 48 n)
+  tag_stands l h n = let a = all_digits h in rw (← a, le-leb 1 k l, le-leb k 9 h, ne_eqb (get_or s 0 0) 48 n)
 
-  -- a tag's digits are a number
+  -- a tag's digits are all that stand in front, and a number
+  pub tag_digits : true ≡ is_field s → k ≡ leading_digits s
+  tag_digits h = omega (arith, digits_of_first 10 s, (field_parts s (sym h)).nine)
+
   pub tag_inside : true ≡ is_field s → k ≤ length s
-  tag_inside h = omega (arith, leading_few s)
+  tag_inside h = omega (arith, tag_digits h, leading_few s)
 
   pub tag_number : true ≡ is_field s → is_number (take k s) ≡ true
   tag_number h =
       let p = field_parts s (sym h) in
-      let l : length (take k s) ≡ k = length-take-le k s (omega (arith, leading_few s)) in
-      number_of_parts (record { some = omega (arith, p.some); few = omega (arith, p.nine); digits = rw e (leading_lem s) })
+      let a = tag_digits h in
+      let l : length (take k s) ≡ k = length-take-le k s (tag_inside h) in
+      number_of_parts (record { some = omega (arith, p.some); few = omega (arith, p.nine); digits = rw a (leading_lem s) })
 
 -- the tag `t` stands at the front
 pub record Tagged (s : List ℕ) (t : Tag) : Type 0 where

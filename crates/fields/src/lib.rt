@@ -1,12 +1,12 @@
 // The fields of a FIX message, by their places: document 02, S-1.
 #![tactic(auto)]
 
-ghost use Rattle.std.specs.Prelude.{◌≡◌, ◌==◌, position, length};
-ghost use Rattle.std.specs.Iterator.{YieldsFirst, item_count};
+ghost use Rattle.std.specs.Prelude.{◌≡◌, ◌==◌, position, length, take};
+ghost use Rattle.std.specs.Iterator.{item_count};
 ghost use Rattle.std.proofs.Math.Seq.{slice};
 ghost use Rattle.rules.specs.Fix.{leading_digits, is_field};
-ghost use Rattle.fields.specs.Fields.{Inside, field_at, fields_at};
-ghost use Rattle.fields.specs.Steps.{tag_in};
+ghost use Rattle.fields.specs.Fields.{Inside, field_at};
+ghost use Rattle.fields.specs.Steps.{tag_in, fields_left, ReadsField};
 
 use number_values::{leading_digits, number_of};
 
@@ -43,10 +43,11 @@ struct Tag {
     digits: usize,
 }
 
-// Whether bytes with so many digits in front begin with a tag: a digit that is not 0, up to eight more, and =.
+// Whether bytes whose first ten have so many digits in front begin with a tag: a digit that is not 0, up to eight more,
+// and =.
 #[tactic(auto, using(crate::proofs::Tags::no_digit, crate::proofs::Tags::ten_digits, crate::proofs::Tags::digit_inside, crate::proofs::Tags::not_nought, crate::proofs::Tags::not_cut, crate::proofs::Tags::tag_stands))]
 fn has_tag(s: &[u8], digits: usize) -> bool
-    requires { digits ≡ leading_digits s.now }
+    requires { digits ≡ leading_digits (take 10 s.now) }
     ensures { result ≡ is_field s.now }
 {
     if digits < 1 || 9 < digits {
@@ -55,12 +56,12 @@ fn has_tag(s: &[u8], digits: usize) -> bool
     s[0] != b'0' && digits < s.len() && s[digits] == b'='
 }
 
-// The tag that the bytes begin with.
-#[tactic(auto, unfolding(crate::specs::Steps::tag_in, rules::specs::Fix::tag_of), using(crate::proofs::Tags::tag_number, crate::proofs::Tags::tag_inside))]
+// The tag that the bytes begin with. The tenth is the last that may be its =.
+#[tactic(auto, unfolding(crate::specs::Steps::tag_in, rules::specs::Fix::tag_of), using(crate::proofs::Tags::first_ten, crate::proofs::Tags::tag_digits, crate::proofs::Tags::tag_number, crate::proofs::Tags::tag_inside))]
 fn tag_in(s: &[u8]) -> Option<Tag>
     ensures { result ≡ tag_in s.now }
 {
-    let digits = leading_digits(s);
+    let digits = leading_digits(&s[..s.len().min(10)]);
     if !has_tag(s, digits) {
         return None;
     }
@@ -95,7 +96,7 @@ pub fn next_field(message: &[u8], at: usize) -> Option<Field>
 }
 
 // A field reader: a message, and its position between two fields. It gives one field after the other.
-#[derive(Drop)]
+#[derive(Clone, Copy)]
 pub struct Fields<'a> {
     pub message: &'a [u8],
     pub at: usize,
@@ -104,9 +105,9 @@ pub struct Fields<'a> {
 impl<'a> Iterator for Fields<'a> {
     type Item = Field;
 
-    ghost next_gives = { YieldsFirst (λ s. fields_at s.message.now s.at) };
+    ghost next_gives = { ReadsField };
 
-    ghost remaining = { item_count (λ s. fields_at s.message.now s.at) };
+    ghost remaining = { item_count fields_left };
 
     #[tactic(auto, using(crate::proofs::Laws::none_left, crate::proofs::Laws::one_left))]
     fn next(&mut self) -> Option<Field> {

@@ -6,10 +6,10 @@ pub loop-f-init : goal.loop-f-init
 loop-f-init c = rw c.into_iter-f-iterator.ensures.into_iter_gives (all_left c.args.message.now c.args.at _ c.start-s.ensures)
 
 pub step-s-requires : goal.step-s-requires
-step-s-requires c = next_inside c.loop-f.invariant _ _ c.in-Some.ensures.steps
+step-s-requires c = next_inside c.loop-f.invariant _ _ c.in-Some.ensures.steps.0
 
 pub loop-f-preserved : goal.loop-f-preserved
-loop-f-preserved c = one_passed c.loop-f.invariant _ _ c.in-Some.ensures.steps _ c.step-s.ensures
+loop-f-preserved c = one_passed c.loop-f.invariant _ _ c.in-Some.ensures.steps.0 _ c.step-s.ensures
 
 pub returns : goal.returns
-returns c = none_left c.loop-f.invariant c.in-None.ensures.steps.0
+returns c = none_left c.loop-f.invariant c.in-None.ensures.steps.0.0
