@@ -3,7 +3,7 @@
 
 ghost use Rattle.std.specs.Prelude.{◌≡◌, not, ◌≤◌, length, replicate};
 ghost use Rattle.rules.specs.Order.{is_yes};
-ghost use Rattle.rules.specs.Crossing.{crossing_price, execution};
+ghost use Rattle.rules.specs.Crossing.{crossing_price, unexecuted, execution};
 ghost use Rattle.answers.specs.Answers.{quote_said};
 ghost use Rattle.resting.specs.Lent.{lent};
 ghost use Rattle.crossing.specs.ByQuote.{crossed_by};
@@ -12,7 +12,7 @@ ghost use Rattle.crossing.specs.Said.{crossed_said};
 use answers::{AnswerToQuote, Check, Refusal, fail_if};
 use execution::{fill, furthest, is_booked};
 use resting::{Crossing, is_bad_crossing, is_bought};
-use rules::{CrossingAnswer, Mills};
+use rules::{CrossingAnswer, Mills, QuoteAnswer};
 use sides::Quote;
 
 // The parts of an accepted crossing quote's size.
@@ -33,33 +33,33 @@ pub enum Crossed {
 // What the check on a crossing quote answers.
 pub type AnswerToCrossing = Result<Crossed, Refusal>;
 
+// Nothing executes.
+fn unexecuted(number: u64, cancel: u64) -> CrossingAnswer
+    ensures { result ≡ unexecuted number cancel }
+{
+    CrossingAnswer {
+        number,
+        cancel,
+        executed: 0,
+        booked: 0,
+        cancelled: 0,
+    }
+}
+
 // A crossing quote's answer in numbers. A refusal cancels nothing, and what is not accepted executes nothing.
 pub fn said_of_crossing(answer: AnswerToCrossing) -> CrossingAnswer
     ensures { result ≡ crossed_said answer }
 {
-    let nothing = CrossingAnswer {
-        number: 0,
-        cancel: 0,
-        executed: 0,
-        booked: 0,
-        cancelled: 0,
-    };
     match answer {
         Ok(Crossed::Accepted(parts)) => CrossingAnswer {
+            number: 0,
+            cancel: 0,
             executed: parts.executed,
             booked: parts.booked,
             cancelled: parts.cancelled,
-            ..nothing
         },
-        Ok(Crossed::Rejected(check, cancel)) => CrossingAnswer {
-            number: u64::from(check),
-            cancel: u64::from(cancel),
-            ..nothing
-        },
-        Err(refusal) => CrossingAnswer {
-            number: u64::from(refusal),
-            ..nothing
-        },
+        Ok(Crossed::Rejected(check, cancel)) => unexecuted(u64::from(check), u64::from(cancel)),
+        Err(refusal) => unexecuted(u64::from(refusal), 0),
     }
 }
 
@@ -87,13 +87,38 @@ fn execute(q: Quote, c: Crossing, fills: &mut [u64]) -> Parts
     }
 }
 
-// What a crossing quote gets, by the quote check's answer. What comes with it counts only where that check does not
-// refuse, and it executes only where that check accepts.
-#[tactic(auto, using(rules::proofs::Executing::good_lengths, answers::proofs::Laws::refusal_refuses, answers::proofs::Laws::check_rejects), unfolding(crate::specs::ByQuote::crossed_by))]
-pub fn cross(answer: AnswerToQuote, q: Quote, c: Crossing, fills: &mut [u64]) -> AnswerToCrossing
-    ensures { record { answer = crossed_said result; fills = fills.new } ≡ crossed_by (quote_said answer) q.bid q.offer (lent c.entry) (length fills.old) }
+// Every fill 0.
+fn clear(fills: &mut [u64])
+    ensures { fills.new ≡ replicate (length fills.old) 0 }
 {
     fills.fill(0);
+}
+
+// What a crossing quote gets, by the quote check's answer. What comes with it counts only where that check does not
+// refuse, and it executes only where that check accepts.
+#[tactic(auto, using(rules::proofs::Executing::good_lengths), unfolding(crate::specs::ByQuote::crossed_by))]
+pub fn cross(answer: QuoteAnswer, q: Quote, c: Crossing, fills: &mut [u64]) -> CrossingAnswer
+    ensures { record { answer = result; fills = fills.new } ≡ crossed_by answer q.bid q.offer (lent c.entry) (length fills.old) }
+{
+    clear(fills);
+    match answer.number {
+        0 | 20..=26 if is_bad_crossing(fills.len(), c) => unexecuted(36, 0),
+        0 => said_of_crossing(Ok(Crossed::Accepted(execute(q, c, fills)))),
+        number => unexecuted(number, answer.cancel),
+    }
+}
+
+// The same in the code's own terms.
+#[tactic(auto, using(rules::proofs::Executing::good_lengths, answers::proofs::Laws::refusal_refuses, answers::proofs::Laws::check_rejects), unfolding(crate::specs::ByQuote::crossed_by))]
+pub fn cross_answer(
+    answer: AnswerToQuote,
+    q: Quote,
+    c: Crossing,
+    fills: &mut [u64],
+) -> AnswerToCrossing
+    ensures { record { answer = crossed_said result; fills = fills.new } ≡ crossed_by (quote_said answer) q.bid q.offer (lent c.entry) (length fills.old) }
+{
+    clear(fills);
     let judged = answer?;
     fail_if(is_bad_crossing(fills.len(), c), Refusal::BadCrossing)?;
     Ok(match judged.verdict {

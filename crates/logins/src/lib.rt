@@ -7,7 +7,7 @@ ghost use Rattle.rules.specs.Session.{login_at, with_login, is_rejection_limit, 
 ghost use Rattle.answers.specs.Answers.{answer_said};
 
 use amounts::within;
-use answers::Answer;
+use answers::{Answer, said};
 use rules::{Login, Tally};
 use tally::{counted, is_broken, is_rejected};
 
@@ -61,16 +61,24 @@ pub fn is_bad_login(l: Login) -> bool
     !is_limit(l.limit) || is_broken(l.tally) || l.limit < l.running || l.tally.rejected < l.running
 }
 
+// One order more, by the number that it got.
+pub fn counted_login(l: Login, number: u64) -> Login
+    requires { (is_bad_tally l.tally ≡ false) × (l.running ≤ 10000) }
+    ensures { result ≡ counted_login l number }
+{
+    Login {
+        tally: counted(l.tally, number),
+        running: l.running + u64::from(is_rejected(number)),
+        ..l
+    }
+}
+
 // One order more, by its answer.
-pub fn counted_login(l: Login, answer: Answer) -> Login
+pub fn counted_answer(l: Login, answer: Answer) -> Login
     requires { (is_bad_tally l.tally ≡ false) × (l.running ≤ 10000) }
     ensures { result ≡ counted_login l (answer_said answer).number }
 {
-    Login {
-        tally: counted(l.tally, answer),
-        running: l.running + u64::from(is_rejected(answer)),
-        ..l
-    }
+    counted_login(l, said(answer).number)
 }
 
 // The rejections count from 0 again; the tally stays.

@@ -10,31 +10,34 @@ use answers::{Answer, said};
 use rules::{PairAnswer, PairSide};
 
 // Neither refused nor rejected.
-#[tactic(auto, using(crate::proofs::Laws::not_of_refusal, crate::proofs::Laws::not_of_check))]
-fn is_accepted(answer: Answer) -> bool
-    ensures { result ≡ is_accepted (answer_said answer).number }
+fn is_accepted(number: u64) -> bool
+    ensures { result ≡ is_accepted number }
 {
-    match answer {
-        Ok(judged) => judged.verdict.is_ok(),
-        Err(_) => false,
-    }
+    number == 0
 }
 
-// By the two orders' own answers, and the mark to continue unpaired.
+// By the two orders' own numbers, and the mark to continue unpaired.
 #[tactic(auto, unfolding(rules::specs::Pair::paired))]
-pub fn paired(unpaired: u64, agency: Answer, contra: Answer) -> PairAnswer
-    ensures { result ≡ paired unpaired (answer_said agency).number (answer_said contra).number }
+pub fn paired(unpaired: u64, agency: u64, contra: u64) -> PairAnswer
+    ensures { result ≡ paired unpaired agency contra }
 {
     let pass = is_accepted(agency) && is_accepted(contra);
     let alone = unpaired != 0 && is_accepted(agency) && !is_accepted(contra);
     PairAnswer {
         agency: PairSide {
-            number: said(agency).number,
+            number: agency,
             passes: u64::from(pass || alone),
         },
         contra: PairSide {
-            number: said(contra).number,
+            number: contra,
             passes: u64::from(pass),
         },
     }
+}
+
+// By the two orders' own answers.
+pub fn paired_answers(unpaired: u64, agency: Answer, contra: Answer) -> PairAnswer
+    ensures { result ≡ paired unpaired (answer_said agency).number (answer_said contra).number }
+{
+    paired(unpaired, said(agency).number, said(contra).number)
 }

@@ -6,7 +6,7 @@ ghost use Rattle.rules.specs.Lists.{any};
 ghost use Rattle.rules.specs.Session.{login_at, logins, with_login, is_bad_login, in_all, gets_twelve, turned_away, counted_login, release_login};
 ghost use Rattle.answers.specs.Answers.{refusal_number, number_of, answer_said};
 
-use answers::{Answer, Refusal, fail_if};
+use answers::{Answer, Refusal, fail_if, said};
 use logins::{counted_login, is_bad_login, login_at, place_login, released_login};
 
 // How many orders the session may still tally. What all logins have seen might not fit a word, so it is taken from the
@@ -49,16 +49,24 @@ pub fn turned_away(is_order: bool, session: &[u64], login: u64) -> Result<(), Re
     fail_if(is_order && l.limit <= l.running, Refusal::RestrictedLogin)
 }
 
-// Counts an order that was not turned away, by its answer.
+// Counts an order that was not turned away, by the number that it got.
 #[tactic(auto, using(crate::proofs::Turned::placed, crate::proofs::Turned::tally_countable, crate::proofs::Turned::running_countable))]
-pub fn count_order(session: &mut [u64], login: u64, answer: Answer)
+pub fn count_order(session: &mut [u64], login: u64, number: u64)
     requires { turned_away true session.old login ≡ 0 }
-    ensures { session.new ≡ with_login session.old login (counted_login (login_at session.old login) (answer_said answer).number) }
+    ensures { session.new ≡ with_login session.old login (counted_login (login_at session.old login) number) }
 {
     let session = session.as_mut_array::<192>().unwrap();
     let i = login as usize;
     let l = login_at(session, i);
-    place_login(session, i, counted_login(l, answer));
+    place_login(session, i, counted_login(l, number));
+}
+
+// Counts an order that was not turned away, by its answer.
+pub fn count_answer(session: &mut [u64], login: u64, answer: Answer)
+    requires { turned_away true session.old login ≡ 0 }
+    ensures { session.new ≡ with_login session.old login (counted_login (login_at session.old login) (answer_said answer).number) }
+{
+    count_order(session, login, said(answer).number);
 }
 
 // Releases a login: its running number alone becomes 0.

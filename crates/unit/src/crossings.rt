@@ -3,7 +3,8 @@ ghost use Rattle.std.specs.Prelude.{◌≡◌, length};
 ghost use Rattle.rules.specs.Market.{settings_of, market_of};
 ghost use Rattle.rules.specs.Crossing.{check_crossing};
 
-use crossing::{cross, said_of_crossing};
+use answers::said_of_quote;
+use crossing::cross;
 use quote_check::check_slices;
 use resting::Crossing;
 use rules::Mills;
@@ -44,8 +45,7 @@ pub extern "C" fn opc_check_crossing_quote(
         sizes,
         away: Mills(away),
     };
-    let answer = cross(checked, quote, crossing, fills);
-    let said = said_of_crossing(answer);
+    let said = cross(said_of_quote(checked), quote, crossing, fills);
     *cancel = said.cancel;
     *executed = said.executed;
     *booked = said.booked;

@@ -4,7 +4,7 @@ ghost use Rattle.rules.specs.Market.{settings_of, market_of};
 ghost use Rattle.rules.specs.Pair.{check_pair};
 
 use order_check::check_slices;
-use pair::paired;
+use pair::paired_answers;
 use terms::terms_of;
 
 // Checks both orders of a pair. The agency order's number is the result; the contra order's, and which order passes, are
@@ -55,7 +55,7 @@ pub extern "C" fn opc_check_pair(
         contra_shares,
     );
     let contra = check_slices(contra_symbols, contra_counts, terms, settings, market);
-    let answer = paired(continue_unpaired, agency, contra);
+    let answer = paired_answers(continue_unpaired, agency, contra);
     *contra_number = answer.contra.number;
     *agency_passes = answer.agency.passes;
     *contra_passes = answer.contra.passes;

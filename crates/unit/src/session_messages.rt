@@ -6,7 +6,7 @@ ghost use Rattle.rules.specs.Session.{check_in_session};
 
 use answers::lend;
 use fix_check::check_fix;
-use session::{count_order, turned_away};
+use session::{count_answer, turned_away};
 
 // Checks the order that a message of a login says and counts it in the session, which is lent both ways.
 #[tactic(auto, unfolding(rules::specs::Session::check_in_session, rules::specs::Numbers::outcome))]
@@ -30,6 +30,6 @@ pub extern "C" fn opc_check_fix_session(
         return lend(Err(refusal), class, shape, pairings);
     }
     let answer = check_fix(message, stop, manual, opening, settings, market);
-    count_order(session, login, answer);
+    count_answer(session, login, answer);
     lend(answer, class, shape, pairings)
 }

@@ -6,7 +6,7 @@ ghost use Rattle.rules.specs.Session.{check_in_session};
 
 use answers::lend;
 use order_check::check_slices;
-use session::{count_order, turned_away};
+use session::{count_answer, turned_away};
 use terms::terms_of;
 
 // Checks an order of a login and counts it in the session, which is lent both ways.
@@ -36,6 +36,6 @@ pub extern "C" fn opc_check_order_session(
     }
     let terms = terms_of(price, kind, stop, manual, opening, shares);
     let answer = check_slices(symbols, counts, terms, settings, market);
-    count_order(session, login, answer);
+    count_answer(session, login, answer);
     lend(answer, class, shape, pairings)
 }
