@@ -2,11 +2,15 @@
 use mathlib.Core.Path.{◌≡◌, refl, ◌∙◌}
 use mathlib.Core.List.{List, [], ◌∷◌, zip_with}
 use mathlib.Core.Bool.{Bool, true, false, cond, ◌&&◌}
-use Prim.Native.Nat.{ℕ, zero, suc, ◌+◌, ◌-◌, ◌*◌, ◌≤◌, ◌<◌, min, max}
+use Prim.Native.Nat.{ℕ, ◌+◌, ◌-◌, ◌*◌, ◌≤◌, ◌<◌, min, max}
 use native.Mathlib.Omega.{arith}
 use lib.Dec.{leb}
-use lib.ListN.{length, take, get_or}
+use lib.ListN.{length, get_or}
 use borrow.Author.Tests.{leb-true, leb-false, le-leb, lt-leb}
+use Rattle.std.proofs.Common.{Option, Some, None}
+use Rattle.std.specs.Option.{unwrap_or, option_map_or}
+use Rattle.answers.specs.declared.Class as answers
+use Rattle.answers.specs.Answers.{class_number}
 use Rattle.rules.specs.declared.Leg.{Leg}
 use Rattle.rules.specs.Class.{strike_of, is_butterfly, has_own_class, class_with}
 use Rattle.keys.specs.Tags.{leg_at, legs_from}
@@ -65,3 +69,8 @@ class_other (t ∷ s ∷ []) (u ∷ []) pairs same h root = refl
 class_other (t ∷ s ∷ []) (u ∷ v ∷ units) pairs same h root = refl
 class_other (t ∷ s ∷ r ∷ tags) units pairs same h root =
     shown (λ ls. class_with ls pairs) root (four_more (t ∷ s ∷ r ∷ tags) (omega arith)) (four_more units (omega arith)) refl
+
+-- a class of its own, or else another, as a number
+pub class_known : (own : Option answers.Class) (pairs : answers.Class) → class_number (unwrap_or own pairs) ≡ option_map_or class_number own (class_number pairs)
+class_known None pairs = refl
+class_known (Some class) pairs = refl

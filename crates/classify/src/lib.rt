@@ -6,7 +6,7 @@ ghost use Rattle.keys.specs.Tags.{legs_in, ValidTags};
 ghost use Rattle.classify.specs.Legs.{IsClassified};
 
 use answers::{Class, Shape};
-use class::class_of;
+use class::class_by;
 use pairing::both_walks;
 use shape::shape_of;
 use unit_counts::units;
@@ -37,7 +37,7 @@ pub fn classify(
 {
     units(&left[..n], &mut counts[..n]);
     let paired = both_walks(&tags[..n], &mut left[..n], european);
-    let class = class_of(&tags[..n], &counts[..n], paired.class);
+    let class = class_by(&tags[..n], &counts[..n], paired.class);
     let shape = shape_of(&tags[..n], &counts[..n]);
     Classified {
         class,

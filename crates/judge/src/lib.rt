@@ -43,8 +43,9 @@ fn judge_complex(h: &Held, t: Terms, tags: &[u64; 16], left: &mut [u64; 16], n: 
 {
     let mut units = [0u64; 16];
     let c = classify(tags, left, n, h.settings.european != 0, &mut units);
+    let class = u64::from(c.class);
     Judged {
-        verdict: complex_checks::rejection(h, t, &tags[..n], &units[..n], c.class, c.shape),
+        verdict: complex_checks::rejection(h.settings, t, &tags[..n], &units[..n], class, c.shape),
         class: c.class,
         shape: c.shape,
         pairings: c.pairings,

@@ -18,7 +18,7 @@ returns c =
     let w = c.both_walks-paired.ensures in
     λ root. record {
       counts = legs_units root a.n a.tags.now a.left.now _ v.valid.full v.full full (λ ls e. c.units.ensures ls e ∙ sym first);
-      class = classed _ _ (rw (← zip_take) at (c.class_of-class.ensures root)) (rw (← zip_take) at (w root).class);
+      class = classed _ _ (rw (← zip_take) at (c.class_by-class.ensures root)) (rw (← zip_take) at (w root).class);
       shape = rw (← zip_take) at (c.shape_of-shape.ensures root);
       pairings = rw (← zip_take) at (w root).pairings;
     }

@@ -20,4 +20,4 @@ rejection-requires c =
 pub returns : goal.returns
 returns c = λ root m.
     let k = c.classify-c.ensures root in
-    judged_by c.args.h.now.settings m c.args.t _ _ k.counts k.class k.shape k.pairings (rw (← zip_take) at (c.rejection.ensures root m))
+    judged_by c.args.h.now.settings m c.args.t _ _ k.counts k.class k.shape k.pairings (rw (c.from-class.ensures, ← zip_take) at (c.rejection.ensures root m))
