@@ -1,3 +1,5 @@
+mod Runs
 mod Tags
+mod Digits
 pub mod Laws
 mod Reading

@@ -4,10 +4,10 @@ use mathlib.Core.Bool.{Bool, true, false, cond}
 use mathlib.Core.List.{List, [], ◌∷◌, ◌++◌}
 use Prim.Native.Nat.{ℕ, zero, suc, ◌+◌, ◌≤◌, ◌<◌}
 use native.Mathlib.Omega.{arith}
-use lib.Dec.{eqb, ltb}
+use lib.Dec.{eqb}
 use lib.ListN.{length, get_or, drop, length-drop, drop_of_length-le}
 use lib.Seq.{take-append-le, drop-drop}
-use borrow.Author.Tests.{ne_eqb, ltb-true, ltb-false}
+use borrow.Author.Tests.{ne_eqb}
 use Rattle.rules.specs.Lists.{all}
 use Rattle.rules.specs.Symbol.{is_digit}
 use Rattle.rules.specs.Fix.{leading_digits, is_field, tag_of, fields_of}
@@ -18,8 +18,8 @@ use Rattle.fields.specs.Fields.{first_at, field_at}
 use Rattle.fields.specs.Steps.{tag_in}
 use Rattle.fields.proofs.Laws.{field_parts, equals_inside}
 use Rattle.fields.proofs.Tags.{Tagged, tagged, no_tag_lem}
+use Rattle.fields.proofs.Runs.{run, first_one, no_one}
 use Rattle.std.specs.Prelude.{Some, None, position}
-use Rattle.std.specs.List.{prefix_len}
 
 -- what the byte 1 behind a field, and all behind that, leave as it is
 module _ (r : List ℕ) where
@@ -52,10 +52,6 @@ module _ (f r : List ℕ) where
   unfolding tag_of
   tag_cut = rw (digits_cut r f, take-append-le (leading_digits f) f (1 ∷ r) (digits_inside f))
 
--- the bytes before the first byte 1
-abbrev run : List ℕ → ℕ
-run s = prefix_len in_field s
-
 -- no byte 1 is among the digits of a tag and its =
 run_behind : (s : List ℕ) → get_or s (leading_digits s) 0 ≡ 61 → run s ≡ leading_digits s + 1 + run (drop (leading_digits s + 1) s)
 unfolding leading_digits
@@ -78,21 +74,6 @@ run_some : (f r : List ℕ) → all in_field f ≡ true → run (f ++ (1 ∷ r))
 unfolding all
 run_some [] r h = refl
 run_some (b ∷ f) r h = let k = and_both (in_field b) _ h in rw k.0 (omega (arith, run_some f r k.1))
-
--- the first byte 1, where there is one
-first_one : (s : List ℕ) {n : ℕ} → Some n ≡ position (λ b. eqb b 1) s → (n ≡ run s) × (n < length s)
-first_one s {n} e = go (ltb (run s) (length s)) refl e
-  where
-    go : (b : Bool) → ltb (run s) (length s) ≡ b → Some n ≡ cond b (Some (run s)) None → (n ≡ run s) × (n < length s)
-    go true h e = let k : n ≡ run s = cc in (k, omega (arith, ltb-true (run s) (length s) h))
-    go false h e = absurd cc
-
-no_one : (s : List ℕ) → None ≡ position (λ b. eqb b 1) s → length s ≤ run s
-no_one s e = go (ltb (run s) (length s)) refl e
-  where
-    go : (b : Bool) → ltb (run s) (length s) ≡ b → None ≡ cond b (Some (run s)) None → length s ≤ run s
-    go true h e = absurd cc
-    go false h e = omega (arith, ltb-false (run s) (length s) h)
 
 module _ (m : List ℕ) (at : ℕ) where
   pub past_end : length m < at → None ≡ field_at m at

@@ -20,7 +20,7 @@ use Rattle.fields.proofs.Laws.{field_parts}
 
 -- ---- the digits of the first bytes are those of all bytes, up to so many
 
-digits_of_first : (n : ℕ) (s : List ℕ) → leading_digits (take n s) ≡ min n (leading_digits s)
+pub digits_of_first : (n : ℕ) (s : List ℕ) → leading_digits (take n s) ≡ min n (leading_digits s)
 unfolding leading_digits
 digits_of_first zero s = omega arith
 digits_of_first (suc n) [] = omega arith

@@ -8,8 +8,6 @@ ghost use Rattle.rules.specs.Fix.{leading_digits, is_field};
 ghost use Rattle.fields.specs.Fields.{Inside, field_at};
 ghost use Rattle.fields.specs.Steps.{tag_in, fields_left, ReadsField};
 
-use number_values::{leading_digits, number_of};
-
 // The places of a value in a message.
 #[derive(Clone, Copy)]
 pub struct Span {
@@ -57,26 +55,45 @@ fn has_tag(s: &[u8], digits: usize) -> bool
 }
 
 // The tag that the bytes begin with. The tenth is the last that may be its =.
-#[tactic(auto, unfolding(crate::specs::Steps::tag_in, rules::specs::Fix::tag_of), using(crate::proofs::Tags::first_ten, crate::proofs::Tags::tag_digits, crate::proofs::Tags::tag_number, crate::proofs::Tags::tag_inside))]
+#[tactic(auto, using(crate::proofs::Digits::none_read, crate::proofs::Digits::small, crate::proofs::Digits::turn, crate::proofs::Digits::ends, crate::proofs::Digits::found, crate::proofs::Digits::other, crate::proofs::Digits::cut, crate::proofs::Digits::ten))]
 fn tag_in(s: &[u8]) -> Option<Tag>
     ensures { result ≡ tag_in s.now }
 {
-    let digits = leading_digits(&s[..s.len().min(10)]);
-    if !has_tag(s, digits) {
-        return None;
+    let mut number = 0;
+    for digits in 0..10 {
+        let b = *s.get(digits)?;
+        if !b.is_ascii_digit() {
+            let tag = Tag { number, digits };
+            return if has_tag(s, digits) { Some(tag) } else { None };
+        }
+        number = number * 10 + u64::from(b - b'0');
     }
-    let number = number_of(&s[..digits]);
-    Some(Tag { number, digits })
+    None
 }
 
-// The place of the first byte 1.
-fn value_len(s: &[u8]) -> Option<usize>
+// The place of the first byte 1: a byte at a turn.
+fn value_len_near(s: &[u8]) -> Option<usize>
     ensures { result ≡ position (λ b. b == 1) s.now }
 {
     s.iter().position(|b| *b == 1)
 }
 
-// The field at the place `at`.
+// The same, four bytes at a turn as long as there are four: most bytes of a message are passed so.
+fn value_len(s: &[u8]) -> Option<usize>
+    ensures { result ≡ position (λ b. b == 1) s.now }
+{
+    let (fours, rest) = s.as_chunks::<4>();
+    for (i, four) in fours.iter().enumerate() {
+        if let Some(n) = value_len_near(four) {
+            return Some(4 * i + n);
+        }
+    }
+    let n = value_len_near(rest)?;
+    Some(4 * fours.len() + n)
+}
+
+// The field at the place `at`. It stands once in the library: in each of its callers it would be slower.
+#[inline(never)]
 #[tactic(auto, using(crate::proofs::Laws::behind, crate::proofs::Reading::past_end, crate::proofs::Reading::start_inside, crate::proofs::Reading::no_tag))]
 pub fn next_field(message: &[u8], at: usize) -> Option<Field>
     ensures { result ≡ field_at message.now at }
