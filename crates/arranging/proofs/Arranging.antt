@@ -147,7 +147,7 @@ module _ (second : Bool) (ls : List Leg) (few : length ls ≤ 16) (range : All (
       (order : places ≡ sort_keys numbers)
       (counts : take n sizes ≡ map (λ x. x.size) ls)
       (arranged : Arranged places sizes (take n tags) (take n left)) where
-    arranged_tags : take n tags ≡ map (tag_of second) (sequenced second ls)
+    pub arranged_tags : take n tags ≡ map (tag_of second) (sequenced second ls)
     arranged_tags = arranged.each_tag ∙ ap (map (λ p. p / 16)) order ∙ each (sort_keys numbers) says ∙ ap (map (tag_of second)) (sym by_tags)
       where
         each : (ps : List ℕ) → All Says ps → map (λ p. p / 16) ps ≡ map (tag_of second) (map at ps)

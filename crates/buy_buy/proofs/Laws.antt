@@ -2,7 +2,7 @@
 use mathlib.Core.Path.{◌≡◌, refl, sym, ap, ◌∙◌}
 use mathlib.Core.List.{List, [], ◌∷◌, zip_with}
 use mathlib.Core.Bool.{Bool, true, false, not, ◌&&◌, ◌||◌}
-use Prim.Native.Nat.{ℕ, ◌+◌, ◌*◌, ◌<◌, ◌≤◌}
+use Prim.Native.Nat.{ℕ, suc, ◌+◌, ◌*◌, ◌<◌, ◌≤◌}
 use native.Mathlib.Omega.{arith}
 use lib.ListN.{length, get_or}
 use lib.Dec.{eqb}
@@ -21,7 +21,7 @@ use Rattle.keys.specs.Tags.{is_bought, leg_at, legs_from}
 use Rattle.arranging.proofs.Zip.{zip_length}
 
 -- sides are the tags'
-sides_of : (root : ℕ) (f : Bool → Bool) (tags units : List ℕ) → length tags ≡ length units
+pub sides_of : (root : ℕ) (f : Bool → Bool) (tags units : List ℕ) → length tags ≡ length units
     → all (λ u. f u.bought) (legs_from root false tags units) ≡ list_all (λ t. f (is_bought t)) tags
 unfolding all zip_with
 sides_of root f [] units e = refl
@@ -29,7 +29,7 @@ sides_of root f (t ∷ tags) [] e = absurd (omega arith)
 sides_of root f (t ∷ tags) (u ∷ units) e = ap (λ (b : Bool). f (is_bought t) && b) (sides_of root f tags units (omega arith))
 
 -- sizes are the unit counts
-sizes_of_lem : (root : ℕ) (tags units : List ℕ) → length tags ≡ length units → sizes (legs_from root false tags units) ≡ sum units
+pub sizes_of_lem : (root : ℕ) (tags units : List ℕ) → length tags ≡ length units → sizes (legs_from root false tags units) ≡ sum units
 unfolding sizes zip_with
 sizes_of_lem root [] [] e = refl
 sizes_of_lem root [] (u ∷ units) e = absurd (omega arith)
@@ -45,6 +45,33 @@ sum_bound [] (u ∷ units) e h = absurd (omega arith)
 sum_bound (t ∷ tags) [] e h = absurd (omega arith)
 sum_bound (t ∷ tags) (u ∷ units) e h =
     omega (arith, h.0.size, sum_bound tags units (omega arith) h.1, sum_by-cons (λ x. x) u units)
+
+-- each as small as the legs
+pub sizes_small : (root : ℕ) (tags units : List ℕ) → length tags ≡ length units → All UnitWithin (legs_from root false tags units) → All (λ s. s ≤ 10000) units
+unfolding zip_with
+sizes_small root [] [] e h = tt
+sizes_small root [] (u ∷ units) e h = absurd (omega arith)
+sizes_small root (t ∷ tags) [] e h = tt
+sizes_small root (t ∷ tags) (u ∷ units) e h = (h.0.size, sizes_small root tags units (omega arith) h.1)
+
+-- as many legs of another root, and as small
+with_root : (root r : ℕ) (tags units : List ℕ)
+    → (length (legs_from r false tags units) ≡ length (legs_from root false tags units)) × (All UnitWithin (legs_from root false tags units) → All UnitWithin (legs_from r false tags units))
+unfolding zip_with
+with_root root r [] units = (refl, λ h. tt)
+with_root root r (t ∷ tags) [] = (refl, λ h. tt)
+with_root root r (t ∷ tags) (u ∷ units) = let k = with_root root r tags units in (ap suc k.0, λ h. (record { size = h.0.size; strike = h.0.strike }, k.1 h.1))
+
+pub complex_root : (st : Settings) (t : Terms) (root r : ℕ) (tags units : List ℕ) → ComplexOrder st t (legs_from root false tags units) → ComplexOrder st t (legs_from r false tags units)
+complex_root st t root r tags units c =
+    let e = with_root root r tags units in
+    record {
+      settings = c.settings;
+      complex = ap not (simple_same t _ _ e.0) ∙ c.complex;
+      some = omega (arith, e.0, c.some);
+      few = omega (arith, e.0, c.few);
+      each = e.1 c.each;
+    }
 
 -- legs of one side are of the first leg's
 either_side : (b : Bool) (on below : Bool → Bool)
@@ -78,7 +105,7 @@ module _ (st : Settings) (t : Terms) (tags units : List ℕ) (same : length tags
 
   -- whatever the legs' root
   pub complex : (root : ℕ) → is_complex t (legs_from root false tags units) ≡ true
-  complex root = ap not (simple_same t _ _ (many root ∙ sym (many 0))) ∙ order.complex
+  complex root = (complex_root st t 0 root tags units order).complex
 
 -- the tests as the code makes them, of legs on a side
 abbrev tested : Settings → Terms → List ℕ → List ℕ → Bool → Bool

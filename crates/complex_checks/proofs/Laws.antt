@@ -1,9 +1,10 @@
 -- The checks of complex orders, and the strikes' bound.
 use mathlib.Core.Path.{◌≡◌, refl, sym, ap, ◌∙◌}
 use mathlib.Core.List.{List, [], ◌∷◌, map, zip_with}
-use mathlib.Core.Bool.{Bool, true, false, cond, not, ◌&&◌}
+use mathlib.Core.Bool.{Bool, true, false, cond, not, ◌&&◌, true≢false}
 use Prim.Native.Nat.{ℕ, ◌+◌, ◌-◌, ◌*◌, ◌/◌, ◌%◌, ◌≤◌}
 use native.Mathlib.Omega.{arith}
+use lib.ListN.{length}
 use native.Mathlib.Nat.{mul-le-mul}
 use lib.Dec.{eqb, ltb}
 use Rattle.rules.specs.declared.Terms.{Terms}
@@ -63,6 +64,14 @@ strikes_bound root (t ∷ tags) (u ∷ units) = (strike_bound root t u, strikes_
 
 pub maximum_bound : (root : ℕ) (tags units : List ℕ) → maximum_of (legs_from root false tags units) ≤ 99999999
 maximum_bound root tags units = maximum_least (legs_from root false tags units) (strikes_bound root tags units)
+
+-- a shape that has a maximum value has two legs or more
+pub maximum_legs : (tags units : List ℕ) {shape : ℕ} → shape ≡ shape_of (legs_from 0 false tags units) → has_maximum shape ≡ true → 2 ≤ length tags
+unfolding zip_with shape_of
+maximum_legs [] units e h = absurd (true≢false (sym h ∙ ap has_maximum e))
+maximum_legs (t ∷ []) [] e h = absurd (true≢false (sym h ∙ ap has_maximum e))
+maximum_legs (t ∷ []) (u ∷ units) e h = absurd (true≢false (sym h ∙ ap has_maximum e))
+maximum_legs (t ∷ s ∷ tags) units e h = omega arith
 
 -- no shape looks at the legs' root
 abbrev rooted : ℕ → Leg → Leg

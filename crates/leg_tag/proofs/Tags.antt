@@ -22,6 +22,7 @@ use Rattle.rules.specs.Order.{series_of, leg_of}
 use Rattle.rules.specs.Pairing.{digit}
 use Rattle.rules.specs.Valid.{InRange}
 use Rattle.rules.proofs.Numerals.{numeral_value, value_below}
+use Rattle.rules.proofs.Slices.{bytes_at, slice_bytes}
 use Rattle.rules.proofs.Symbols.{limits, laid, parts_in_layout}
 use Rattle.symbol.proofs.Laws.{inside, outside, read_small}
 use Rattle.keys.specs.Tags.{key_of, tag_of}
@@ -33,7 +34,7 @@ unfolding are_digits
 byte_digits [] h = refl
 byte_digits (b ∷ bs) h = rw (le-leb 0 b (omega arith), lt-ltb b (0 + 256) (omega (arith, h 0))) (byte_digits bs (λ i. h (suc i)))
 
-root_again : (bs : List ℕ) → length bs ≡ 6 → ((i : ℕ) → get_or bs i 0 < 256) → IsKnown (value 256 0 bs) → is_root bs ≡ true
+pub root_again : (bs : List ℕ) → length bs ≡ 6 → ((i : ℕ) → get_or bs i 0 < 256) → IsKnown (value 256 0 bs) → is_root bs ≡ true
 root_again bs l h known =
     let d = byte_digits bs h in
     let same : numeral 256 0 6 (value 256 0 bs) ≡ bs = rw l at (numeral_value 256 0 (omega arith) bs d) in
@@ -45,6 +46,16 @@ known_root None bs k l e h t = cc
 known_root (Some x) {root} bs k l e h t = sym (root_again bs l h (subst IsKnown (eqb-true x root t ∙ e) k))
 
 module _ (s : List ℕ) (long : length s ≡ 21) where
+  -- what is said of the bytes of the root
+  root_bytes : slice 0 6 s ≡ bytes_at 6 0 s
+  root_bytes = slice_bytes 6 0 6 s refl (omega arith)
+
+  pub root_counted : (root : ℕ) → root ≡ value 256 0 (slice 0 6 s) → root ≡ value 256 0 (bytes_at 6 0 s)
+  root_counted root e = e ∙ ap (value 256 0) root_bytes
+
+  pub root_good : is_root (bytes_at 6 0 s) ≡ true → is_root (slice 0 6 s) ≡ true
+  root_good h = ap is_root root_bytes ∙ h
+
   pub root_bad : is_root (slice 0 6 s) ≡ false → is_symbol s ≡ false
   unfolding is_symbol
   root_bad h = rw h

@@ -22,6 +22,7 @@ use Rattle.sorting.proofs.Laws.{sort_same, sort_ascends}
 use Rattle.keys.specs.Tags.{key_of, tag_of, place_of, key_in, Placed}
 use Rattle.arranging.proofs.Back.{key_tells, tag_half}
 use Rattle.arranging.proofs.Valid.{root_of, one_root, equal_series}
+use Rattle.arranging.proofs.Zip.{zip_length}
 use Rattle.series_refusals.specs.Twice.{is_one_key, some_next, with_root, keys_of, is_same_key, SortedTwice}
 
 -- ---- neighbours
@@ -78,6 +79,10 @@ again_beside k (p ∷ ps) [] = refl
 again_beside k (p ∷ ps) (r ∷ rs) = ap (λ (b : Bool). is_same_key k (with_root p r) || b) (again_beside k ps rs)
 
 module _ (ps rs : List ℕ) (beside : length rs ≡ length ps) where
+  -- there are as many keys as places
+  pub keys_fit : (n : ℕ) → n ≤ length ps → n ≤ length (keys_of ps rs)
+  keys_fit n h = omega (arith, zip_length with_root ps rs (sym beside))
+
   -- whether two from `i` on have one key and one root
   abbrev pub two_from : ℕ → Bool
   two_from i = some_pair is_same_key (keys_of (drop i ps) (drop i rs))

@@ -146,7 +146,7 @@ module _ (tags left : List ℕ) (q : InSequence tags left) (second : Bool) (root
   sizes (t ∷ ts) [] h = tt
   sizes (t ∷ ts) (m ∷ ns) h = (h.0, sizes ts ns h.1)
 
-  figure_fits : (s : Series) (j : ℕ) → nat_abs (open_contracts (together second) s (legs_from_on root tags left second j)) ≤ 160000
+  pub figure_fits : (s : Series) (j : ℕ) → nat_abs (open_contracts (together second) s (legs_from_on root tags left second j)) ≤ 160000
   figure_fits s j = figure_small (together second) s 160000 (legs_from_on root tags left second j) (λ side. omega (arith, open_few (together second) side s 10000 (legs_from_on root tags left second j) counted, short))
     where
       counted : All (λ (l : Leg). l.size ≤ 10000) (legs_from_on root tags left second j)

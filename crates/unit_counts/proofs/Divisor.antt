@@ -1,16 +1,16 @@
 -- The common divisor of counts from the last to the first, and that counts of 1 or more have one.
 use mathlib.Core.Path.{◌≡◌, refl, sym, ap, ap₂, ◌∙◌}
-use mathlib.Core.List.{List, [], ◌∷◌, map, reverse, reverse-cons}
+use mathlib.Core.List.{List, [], ◌∷◌, ◌++◌, map, reverse, reverse-cons}
 use mathlib.Core.Bool.{false}
 use Prim.Native.Nat.{ℕ, ◌/◌, ◌≤◌, ◌<◌}
 use native.Mathlib.Nat.{pos_of_dvd_of_pos}
 use native.Mathlib.Omega.{arith}
-use lib.ListN.{length}
+use lib.ListN.{length, take, drop, take-append-drop}
 use Rattle.std.specs.List.{fold}
 use Rattle.std.proofs.lemmas.List.Sums.{fold-append}
 use Rattle.rules.specs.declared.Leg.{Leg}
 use Rattle.rules.specs.Lists.{All}
-use Rattle.rules.specs.Order.{gcd, common_divisor, divided, units}
+use Rattle.rules.specs.Order.{gcd, gcd_within, common_divisor, divided, units}
 use Rattle.laws.proofs.Divisor.{gcd_divides}
 
 -- the common divisor of some counts
@@ -25,6 +25,20 @@ of_legs_lem : (ls : List Leg) → common_divisor ls ≡ divisor_of (sizes_of ls)
 unfolding common_divisor divisor_of
 of_legs_lem [] = refl
 of_legs_lem (l ∷ ls) = ap (gcd l.size) (of_legs_lem ls)
+
+-- a divisor of 1 stays
+one_stays : (a : ℕ) → gcd a 1 ≡ 1
+unfolding gcd gcd_within
+one_stays a = refl
+
+ends_at_one : (xs ys : List ℕ) → divisor_of ys ≡ 1 → divisor_of (xs ++ ys) ≡ 1
+unfolding divisor_of
+ends_at_one [] ys h = h
+ends_at_one (x ∷ xs) ys h = ap (gcd x) (ends_at_one xs ys h) ∙ one_stays x
+
+-- a divisor of 1 of the last counts is that of all
+pub one_of_all : (xs : List ℕ) (i : ℕ) → divisor_of (drop i xs) ≡ 1 → divisor_of xs ≡ 1
+one_of_all xs i h = ap divisor_of (sym (take-append-drop i xs)) ∙ ends_at_one (take i xs) (drop i xs) h
 
 -- the divisor of all legs that have these counts
 pub divisor_read : (ss : List ℕ) (d : ℕ) → d ≡ divisor_of ss → (ls : List Leg) → sizes_of ls ≡ ss → d ≡ common_divisor ls
