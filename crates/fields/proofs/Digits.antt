@@ -63,7 +63,7 @@ module _ {s : List ℕ} {k n : ℕ} (r : Read s k n) where
       digit_small b d = omega (arith, within_both 48 57 b d)
 
   -- a byte that is no digit ends them
-  pub ends : (b : ℕ) → k < length s → b ≡ get_or s k 0 → is_digit b ≡ false → k < 10 → k ≡ leading_digits (take 10 s)
+  pub ends : (b : ℕ) → k < length s → b ≡ get_or s k 0 → is_digit b ≡ false → k ≤ 10 → k ≡ leading_digits (take 10 s)
   unfolding leading_digits
   ends b h e d l =
       let none : leading_digits (drop k s) ≡ 0 = rw (drop-cons s k 0 h, ← e, d) refl in

@@ -9,7 +9,6 @@ use lib.ListN.{length, get_or, take, get_or-eq_default}
 use lib.Seq.{length-take-le}
 use borrow.Author.Tests.{le-leb, lt-leb, eq-eqb, ne_eqb}
 use Rattle.std.specs.Prelude.{Option, Some, None}
-use Rattle.std.proofs.lemmas.List.{take_min}
 use Rattle.rules.specs.Symbol.{is_digit}
 use Rattle.rules.specs.Fix.{leading_digits, is_field, tag_of, is_number}
 use Rattle.rules.proofs.Tests.{and_no}
@@ -29,10 +28,6 @@ digits_of_first (suc n) (b ∷ s) = go (is_digit b) (digits_of_first n s)
     go : (d : Bool) → leading_digits (take n s) ≡ min n (leading_digits s) → cond d (suc (leading_digits (take n s))) 0 ≡ min (suc n) (cond d (suc (leading_digits s)) 0)
     go true h = omega arith
     go false h = omega arith
-
--- the first ten bytes, as code lends them
-pub first_ten : (s : List ℕ) → take (min (length s) 10) s ≡ take 10 s
-first_ten s = search (arith, take_min)
 
 -- ---- the test, by cases
 

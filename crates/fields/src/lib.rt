@@ -54,8 +54,8 @@ fn has_tag(s: &[u8], digits: usize) -> bool
     s[0] != b'0' && digits < s.len() && s[digits] == b'='
 }
 
-// The tag that the bytes begin with. The tenth is the last that may be its =.
-#[tactic(auto, using(crate::proofs::Digits::none_read, crate::proofs::Digits::small, crate::proofs::Digits::turn, crate::proofs::Digits::ends, crate::proofs::Digits::found, crate::proofs::Digits::other, crate::proofs::Digits::cut, crate::proofs::Digits::ten))]
+// The tag that the bytes begin with. The tenth byte is the last that may be its =.
+#[tactic(auto, using(crate::proofs::Digits::other))]
 fn tag_in(s: &[u8]) -> Option<Tag>
     ensures { result ≡ tag_in s.now }
 {
@@ -92,7 +92,7 @@ fn value_len(s: &[u8]) -> Option<usize>
     Some(4 * fours.len() + n)
 }
 
-// The field at the place `at`. It stands once in the library: in each of its callers it would be slower.
+// The field at the place `at`. It is kept out of its callers, where the turns over a value's bytes would take longer.
 #[inline(never)]
 #[tactic(auto, using(crate::proofs::Laws::behind, crate::proofs::Reading::past_end, crate::proofs::Reading::start_inside, crate::proofs::Reading::no_tag))]
 pub fn next_field(message: &[u8], at: usize) -> Option<Field>

@@ -76,7 +76,7 @@ fn legs_in(message: &[u8], f: Field) -> u64
     }
 }
 
-// The places after a field that says so many groups.
+// The places after a field that says so many groups. They are made anew even where they stay: see `step`.
 #[tactic(auto, unfolding(crate::specs::Scanning::places_step))]
 fn places_step(message: &[u8], p: Places, f: Field, legs: u64) -> Places
     requires inside { Inside (length message.now) f.value }
@@ -97,7 +97,7 @@ fn places_step(message: &[u8], p: Places, f: Field, legs: u64) -> Places
             legs,
             ..p
         },
-        _ => p,
+        _ => Places { ..p },
     }
 }
 
@@ -112,7 +112,8 @@ fn is_further(tag: u64) -> bool
     }
 }
 
-// The state after a field. Most fields have a further tag: they are stepped over before anything else is computed.
+// The state after a field. Most fields have a further tag: they are stepped over before anything else is computed. Else
+// sequence and places are made anew: copied as a whole, their padding would be moved at every turn.
 #[tactic(auto, using(crate::proofs::Laws::passes), unfolding(crate::specs::Scanning::step_of))]
 fn step(message: &[u8], s: Scan, f: Field) -> Scan
     requires { Inside (length message.now) f.value }
@@ -122,10 +123,11 @@ fn step(message: &[u8], s: Scan, f: Field) -> Scan
         return Scan { next: f.next, ..s };
     }
     let legs = legs_in(message, f);
+    let sequence = sequence_step(s.sequence, f.tag, legs);
     Scan {
         next: f.next,
         tail: tail_step(s.tail, s.next, f),
-        sequence: sequence_step(s.sequence, f.tag, legs),
+        sequence: Sequence { ..sequence },
         formed: s.formed && has_form(f.tag, f.value.of(message)),
         places: places_step(message, s.places, f, legs),
     }

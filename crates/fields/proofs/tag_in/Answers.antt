@@ -12,12 +12,12 @@ returns-in_err-b c = c.from_residual.ensures ∙ cut c.loop-digits.invariant c.i
 pub has_tag-requires : goal.has_tag-requires
 has_tag-requires c =
     let at = c.in_ok-b.ensures.lookup.3 in
-    ends c.loop-digits.invariant c.in_ok-b.field-0.now at.0 (at.1 0) (sym c.if-not-is_ascii_digit.ensures.value) c.loop-digits-test.true
+    ends c.loop-digits.invariant c.in_ok-b.field-0.now at.0 (at.1 0) (sym c.if-not-is_ascii_digit.ensures.value) (omega arith)
 
 pub returns-then-has_tag : goal.returns-then-has_tag
 returns-then-has_tag c =
     let at = c.in_ok-b.ensures.lookup.3 in
-    let e = ends c.loop-digits.invariant c.in_ok-b.field-0.now at.0 (at.1 0) (sym c.if-not-is_ascii_digit.ensures.value) c.loop-digits-test.true in
+    let e = ends c.loop-digits.invariant c.in_ok-b.field-0.now at.0 (at.1 0) (sym c.if-not-is_ascii_digit.ensures.value) (omega arith) in
     found c.loop-digits.invariant e c.if-has_tag.ensures
 
 pub overflow_mul-number : goal.overflow_mul-number
@@ -25,7 +25,6 @@ overflow_mul-number c = omega (arith, small c.loop-digits.invariant (omega arith
 
 pub overflow_add-number : goal.overflow_add-number
 overflow_add-number c =
-    let at = c.in_ok-b.ensures.lookup.3 in
     omega (arith, small c.loop-digits.invariant (omega arith), c.from.ensures, c.if-not-is_ascii_digit.ensures.bound)
 
 pub loop-digits-preserved : goal.loop-digits-preserved
